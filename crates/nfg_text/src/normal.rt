@@ -1,8 +1,10 @@
 //! The normal form of a text.
-ghost use Rattle.std.specs.Prelude.{◌≡◌, ◌↔◌, IsTrue, IfOk};
+ghost use Rattle.std.specs.Prelude.{◌≡◌, ◌↔◌, ◌&&◌, nat_le, IsTrue, IfOk};
 ghost use Rattle.std.specs.Char.{IsScalar};
 ghost use Rattle.unicode_normalization.specs.Forms.{nfc};
 ghost use Rattle.nfg_text.specs.Graphemes.{starts_safely};
+ghost use Rattle.nfg_text.specs.Plain.{is_plain, further_ranges};
+ghost use Rattle.ucd_table.specs.Rows.{in_ranges};
 ghost use Rattle.nfg_text.specs.Text.{IsText};
 
 use crate::CodeList;
@@ -31,6 +33,33 @@ pub fn starts_safely(c: u32) -> bool
 {
     let (class, answer) = class_and_quick_check(to_char(c), Form::Nfc);
     class == 0 && answer == QuickCheck::Yes
+}
+
+/// Whether the code point lies in one of seven ranges of common scripts, between two members of which a text is
+/// always settled.
+#[inline]
+pub fn is_plain(c: u32) -> bool
+    ensures { result ≡ is_plain c }
+{
+    is_within(c, 0x20, 0x7E) || is_further_plain(c)
+}
+
+#[inline]
+fn is_further_plain(c: u32) -> bool
+    ensures { result ≡ in_ranges further_ranges c }
+{
+    is_within(c, 0xC0, 0x2FF)
+        | (is_within(c, 0x3A3, 0x3E1)
+            | (is_within(c, 0x400, 0x482)
+                | (is_within(c, 0x3041, 0x3096)
+                    | (is_within(c, 0x4E00, 0x9FFF) | is_within(c, 0xAC00, 0xD7A3)))))
+}
+
+#[inline]
+fn is_within(c: u32, low: u32, high: u32) -> bool
+    ensures { result ≡ (nat_le low c && nat_le c high) }
+{
+    (low <= c) & (c <= high)
 }
 
 /// The text in Normalization Form C (UAX #15).
