@@ -1,3 +1,4 @@
+mod Examples
 pub mod Arrows
 pub mod AsciiFacts
 pub mod AtBreak
@@ -11,6 +12,8 @@ pub mod Equivalence
 pub mod Everywhere
 pub mod HangulFacts
 pub mod KeptFacts
+pub mod KeptFront
+pub mod KindFacts
 pub mod LookBack
 pub mod Memories
 pub mod Parts
