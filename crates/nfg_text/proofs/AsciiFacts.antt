@@ -1,5 +1,5 @@
 -- The facts on the code points below 80, and on what decomposes to a text that begins with one.
-use Rattle.std.proofs.Common.{◌≡◌, ◌⊎◌, ℕ, ◌<◌, Bool, true, false, not, ◌&&◌, ◌||◌, ◌==◌, nat_lt, List, [], ◌∷◌, map, unwrap_or, refl, sym, ap, ap₂, ◌∙◌, arith, inl, inr, eqb-true, lt-ltb, ltb-true}
+use Rattle.std.proofs.Common.{◌≡◌, ℕ, ◌<◌, Bool, true, false, not, ◌&&◌, ◌||◌, ◌==◌, nat_lt, List, [], ◌∷◌, map, unwrap_or, refl, sym, ap, ap₂, ◌∙◌, arith, inl, inr, lt-ltb, ltb-true}
 use Rattle.std.proofs.lemmas.Bool.{cases_Bool, and_from, and_parts}
 use Rattle.ucd_breaks.specs.GraphemeClusterBreak.{grapheme_cluster_break as class}
 use Rattle.ucd_breaks.specs.declared.GraphemeClusterBreak.{GraphemeClusterBreak}

@@ -1,7 +1,6 @@
 -- What comes before a stable place stays, whatever follows.
-use Rattle.std.proofs.Common.{◌≡◌, ℕ, zero, suc, ◌<◌, ◌≤◌, Bool, true, false, not, ◌||◌, ◌==◌, nat_lt, List, [], ◌∷◌, ◌++◌, length, take, drop, Some, if◌then◌else◌, refl, sym, ap, ap₂, subst, ◌∙◌, arith, inl, inr, append-nil, append_assoc, eq-eqb, eqb-true, ltb-true, lt-ltb}
+use Rattle.std.proofs.Common.{◌≡◌, ℕ, ◌<◌, ◌≤◌, Bool, true, List, [], ◌∷◌, ◌++◌, Some, refl, sym, ap, ap₂, subst, ◌∙◌, arith, inl, inr, append-nil, append_assoc}
 use Rattle.std.proofs.Common.{unwrap_or}
-use Rattle.std.proofs.lemmas.Bool.{cases_Bool, cases_lt}
 use Rattle.ucd_breaks.specs.GraphemeClusterBreak.{grapheme_cluster_break as class}
 use Rattle.ucd_breaks.specs.declared.GraphemeClusterBreak.{GraphemeClusterBreak}
 use Rattle.ucd_breaks.specs.declared.GraphemeClusterBreak.TheVariants.{Lf}
@@ -15,8 +14,8 @@ use Rattle.unicode_normalization.proofs.FormsLemmas.{nfc-by_nfd, normalize-Nfd, 
 use Rattle.unicode_normalization.proofs.KeptLemmas.{nfc-alone}
 use Rattle.unicode_segmentation.specs.Grapheme.{break_by_pair, is_grapheme_break}
 use Rattle.nfg_text.specs.Facts.{is_control, BeginsWith}
-use Rattle.nfg_text.specs.Graphemes.{clusters, graphemes_of, is_stable_pair, is_stable_after, stable_len, IsStableBetween, IsStableLen}
-use Rattle.nfg_text.specs.Laws.{GraphemesAtStable, GraphemesAtStableLen, StableLenIsGreatest}
+use Rattle.nfg_text.specs.Graphemes.{clusters, graphemes_of, is_stable_pair}
+use Rattle.nfg_text.specs.Laws.{GraphemesAtStable}
 use Rattle.nfg_text.proofs.AsciiFacts.{ascii_stands_alone, class_of_line_feed, pair_parts, break_before_composed}
 use Rattle.nfg_text.proofs.AtBreak.{clusters-nil, clusters-parted}
 use Rattle.nfg_text.proofs.ControlFacts.{controls_stand_alone}

@@ -1,5 +1,5 @@
 -- The facts on break classes, computed over the steps of the tables.
-use Rattle.std.proofs.Common.{◌≡◌, ℕ, Bool, true, false, not, ◌||◌, ◌==◌, refl}
+use Rattle.std.proofs.Common.{not, ◌||◌, ◌==◌, refl}
 use Rattle.ucd_breaks.specs.GraphemeClusterBreak.{grapheme_cluster_break}
 use Rattle.ucd_breaks.proofs.GraphemeClusterBreakLemmas.{grapheme_cluster_break_stepped}
 use Rattle.ucd_derived.specs.IndicConjunctBreak.{indic_conjunct_break}

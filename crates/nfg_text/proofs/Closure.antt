@@ -10,7 +10,6 @@ use Rattle.unicode_normalization.specs.Decompose.{decompose}
 use Rattle.unicode_normalization.specs.Forms.{Form, Nfd, Nfc, nfc, nfd, decomposed, normalize, IsInForm}
 use Rattle.unicode_normalization.specs.Order.{is_ordered, canonical_order}
 use Rattle.unicode_normalization.specs.QuickCheck.{QuickCheck, Yes, No, Maybe, quick_check, worse, worst, quick_check_text}
-use Rattle.unicode_normalization.proofs.DecomposeLemmas.{IsFull-decompose}
 use Rattle.unicode_normalization.proofs.FormsLemmas.{normalize-boundary, normalize-nil, quick_check_text-No}
 use Rattle.unicode_normalization.proofs.KeptLemmas.{nfc-alone}
 use Rattle.unicode_normalization.proofs.OrderLemmas.{canonical_order-nil, canonical_order-at_starter}

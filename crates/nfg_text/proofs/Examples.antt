@@ -1,8 +1,7 @@
 -- The definitions, computed at texts that are written out.
 use Rattle.std.proofs.Common.{◌≡◌, true, false, [], ◌∷◌, Some, None, refl}
-use Rattle.std.specs.declared.cmp.Ordering.TheVariants.{Less, Equal, Greater}
+use Rattle.std.specs.declared.cmp.Ordering.TheVariants.{Less, Greater}
 use Rattle.unicode_normalization.proofs.Computing.{unicode_normalization}
-use Rattle.unicode_normalization.specs.Forms.{nfc}
 use Rattle.unicode_segmentation.proofs.Computing.{unicode_segmentation}
 use Rattle.ucd_table.specs.Rows.{in_ranges}
 use Rattle.nfg_text.specs.Graphemes.{clusters, graphemes_of, cluster_ends, starts_safely, stable_len}

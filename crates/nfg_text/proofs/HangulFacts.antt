@@ -1,6 +1,6 @@
 -- What the laws need of Hangul, whose syllables decompose and compose by arithmetic.
-use Rattle.std.proofs.Common.{◌≡◌, ℕ, ◌+◌, ◌-◌, ◌/◌, ◌%◌, ◌≤◌, Bool, true, false, not, ◌&&◌, ◌||◌, ◌==◌, List, [], ◌∷◌, None, refl, sym, ap, subst, ◌∙◌, arith, inl, inr, eqb-true, le-leb}
-use Rattle.std.proofs.lemmas.Bool.{cases_Bool, and_from, or_left, cond-false, eqb-false}
+use Rattle.std.proofs.Common.{◌≡◌, ℕ, ◌+◌, ◌-◌, ◌/◌, ◌%◌, ◌≤◌, Bool, true, false, not, ◌&&◌, ◌||◌, ◌==◌, List, [], ◌∷◌, None, refl, sym, ap, ◌∙◌, arith, inl, inr, eqb-true, le-leb}
+use Rattle.std.proofs.lemmas.Bool.{cases_Bool, and_from, cond-false, eqb-false}
 use Rattle.ucd_breaks.specs.GraphemeClusterBreak.{grapheme_cluster_break}
 use Rattle.ucd_breaks.specs.declared.GraphemeClusterBreak.{GraphemeClusterBreak}
 use Rattle.ucd_breaks.specs.declared.GraphemeClusterBreak.TheVariants.{L, Lv, Lvt}
@@ -9,7 +9,6 @@ use Rattle.ucd_table.specs.Rows.{Range, in_ranges}
 use Rattle.ucd_table.proofs.Computing.{tables}
 use Rattle.ucd_table.proofs.Stepped.{Stepped, of_ranges, zip_stepped}
 use Rattle.ucd_table.proofs.StepsLemmas.{rises_from}
-use Rattle.unicode_normalization.specs.Decompose.{decompose}
 use Rattle.unicode_normalization.specs.Forms.{Nfd}
 use Rattle.unicode_normalization.specs.Hangul.{is_syllable, is_leading_consonant, is_vowel, is_trailing_consonant, compose_hangul, s_base, t_count}
 use Rattle.unicode_normalization.proofs.DecomposeLemmas.{decompose-syllable}

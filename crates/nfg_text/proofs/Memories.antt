@@ -6,7 +6,6 @@ use Rattle.ucd_derived.specs.declared.IndicConjunctBreak.{IndicConjunctBreak}
 use Rattle.ucd_derived.specs.declared.IndicConjunctBreak.TheVariants.{Linker, Extend}
 use Rattle.ucd_emoji.specs.Binary.{is_extended_pictographic}
 use Rattle.unicode_segmentation.specs.Grapheme.{break_by_pair, ends_in_linker, ends_in_pictograph, ends_in_half_flag, is_consonant, is_extend, is_zwj, is_regional, is_grapheme_break}
-use Rattle.unicode_segmentation.specs.Segments.{cut}
 use Rattle.nfg_text.specs.declared.breaks.Kind.{Kind}
 use Rattle.nfg_text.specs.declared.breaks.Memory.{Memory}
 use Rattle.nfg_text.specs.Breaks.{IsKindOf, Remembers, ends_in_emoji_joiner, is_linked_after, breaks_by_memory}

@@ -5,7 +5,7 @@ use Rattle.std.proofs.lemmas.List.Elements.{Contains-append_right}
 use Rattle.unicode_segmentation.specs.Grapheme.{is_grapheme_break}
 use Rattle.unicode_segmentation.specs.Segments.{Rule, cut}
 use Rattle.unicode_normalization.specs.Forms.{nfc}
-use Rattle.nfg_text.specs.Graphemes.{clusters, ends_from, IsInNfg}
+use Rattle.nfg_text.specs.Graphemes.{clusters, ends_from}
 use Rattle.nfg_text.specs.Laws.{IsAtBreak, ClustersOfParts, PartsAreInNfg}
 use Rattle.nfg_text.specs.Text.{text_of}
 use Rattle.nfg_text.proofs.AtBreak.{clusters_at_break}

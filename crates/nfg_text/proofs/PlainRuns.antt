@@ -6,12 +6,11 @@ use Rattle.std.proofs.lemmas.List.{reverse-append}
 use Rattle.ucd_breaks.specs.GraphemeClusterBreak.{grapheme_cluster_break}
 use Rattle.ucd_breaks.specs.declared.GraphemeClusterBreak.{GraphemeClusterBreak}
 use Rattle.ucd_breaks.specs.declared.GraphemeClusterBreak.TheVariants.{Other, Lv, Lvt}
-use Rattle.ucd_emoji.specs.Binary.{is_extended_pictographic}
 use Rattle.unicode_normalization.specs.Forms.{nfc}
 use Rattle.unicode_segmentation.specs.Grapheme.{break_by_pair, ends_in_pictograph, is_zwj, is_regional, is_grapheme_break}
 use Rattle.nfg_text.specs.Graphemes.{clusters, graphemes_of}
 use Rattle.nfg_text.specs.Laws.{BreaksBefore, GraphemesAtPlain, PlainRunsAreSingles, PlainPairsBreak}
-use Rattle.nfg_text.specs.Plain.{is_plain, stands_apart, singles}
+use Rattle.nfg_text.specs.Plain.{is_plain, stands_apart}
 use Rattle.nfg_text.proofs.Cuts.{cut-cons, cut-nil, put_first, put_first-nil}
 use Rattle.nfg_text.proofs.PlainFacts.{plain_stands_apart}
 use Rattle.nfg_text.proofs.SafeStart.{nfc_at_safe_start, safe_starts_stay, graphemes_at_safe_start}

@@ -1,5 +1,5 @@
 -- The ranges of plain code points, written out.
-use Rattle.std.proofs.Common.{◌≡◌, ℕ, Bool, true, false, ◌&&◌, ◌||◌, nat_le, refl, sym, ap, ◌∙◌}
+use Rattle.std.proofs.Common.{◌≡◌, ℕ, Bool, true, false, ◌&&◌, ◌||◌, nat_le, refl, sym, ap}
 use Rattle.ucd_table.specs.Rows.{in_ranges}
 use Rattle.nfg_text.specs.Plain.{is_plain, further_ranges}
 

@@ -1,5 +1,5 @@
 -- Before a code point that starts safely, NFC and graphemes may be taken in two parts.
-use Rattle.std.proofs.Common.{◌≡◌, ◌≢◌, ◌⊎◌, ℕ, ◌+◌, ◌≤◌, Bool, true, false, not, ◌&&◌, ◌||◌, ◌==◌, List, [], ◌∷◌, ◌++◌, length, map, reverse, Option, Some, None, unwrap_or, refl, sym, ap, ap₂, subst, ◌∙◌, arith, inl, inr, append_assoc, append-nil, eqb-true, eq-eqb, ne_eqb}
+use Rattle.std.proofs.Common.{◌≡◌, ◌≢◌, ◌⊎◌, ℕ, ◌≤◌, Bool, true, false, not, ◌&&◌, ◌||◌, ◌==◌, List, [], ◌∷◌, ◌++◌, map, reverse, Option, Some, None, unwrap_or, refl, sym, ap, ap₂, subst, ◌∙◌, arith, inl, inr, append_assoc, append-nil, eqb-true, eq-eqb, ne_eqb}
 use Rattle.std.specs.List.{list_all}
 use Rattle.std.proofs.lemmas.Bool.{cases_Bool, and_parts, and_from, eqb-false}
 use Rattle.std.proofs.lemmas.List.{reverse-append}
@@ -23,8 +23,8 @@ use Rattle.unicode_normalization.specs.Compose.{primary_composite, joined, compo
 use Rattle.unicode_normalization.specs.Decompose.{decompose}
 use Rattle.unicode_normalization.specs.Forms.{Nfd, Nfc, nfc}
 use Rattle.unicode_normalization.specs.Hangul.{is_syllable}
-use Rattle.unicode_normalization.specs.Order.{is_reorderable, sink, canonical_order}
-use Rattle.unicode_normalization.specs.QuickCheck.{QuickCheck, Yes, No, Maybe, quick_check}
+use Rattle.unicode_normalization.specs.Order.{is_reorderable, sink}
+use Rattle.unicode_normalization.specs.QuickCheck.{QuickCheck, Yes, No, quick_check}
 use Rattle.unicode_normalization.proofs.Computing.{unicode_normalization}
 use Rattle.unicode_normalization.proofs.ComposeLemmas.{compose_after-cases, compose_after-nil, compose_after-joined}
 use Rattle.unicode_normalization.proofs.DecomposeLemmas.{decompose-final, decompose-primary_composite, IsFull-decompose, primary_composite-some, is_syllable-IsLv, is_syllable-IsLvt, IsCompositeOf-IsTableComposite}
@@ -33,12 +33,12 @@ use Rattle.unicode_normalization.proofs.OrderLemmas.{canonical_order-cons, is_or
 use Rattle.unicode_normalization.proofs.TableFacts.{is_final}
 use Rattle.unicode_segmentation.specs.Grapheme.{break_by_pair, ends_in_linker, ends_in_pictograph, ends_in_half_flag, joins_conjunct, joins_emoji, joins_flag, is_consonant, is_zwj, is_regional, is_grapheme_break}
 use Rattle.nfg_text.specs.Facts.{BeginsWith}
-use Rattle.nfg_text.specs.Graphemes.{is_yes, clusters, graphemes_of, starts_safely}
-use Rattle.nfg_text.specs.Laws.{BreaksBefore, NfcAtSafeStart, SafeStartsStay, ClustersAtSafeStart, GraphemesAtSafeStart, SafeStartsDecide, IsAtBreak}
+use Rattle.nfg_text.specs.Graphemes.{is_yes, clusters, starts_safely}
+use Rattle.nfg_text.specs.Laws.{NfcAtSafeStart, SafeStartsStay, ClustersAtSafeStart, GraphemesAtSafeStart, SafeStartsDecide, IsAtBreak}
 use Rattle.nfg_text.specs.Text.{text_of}
 use Rattle.nfg_text.proofs.AtBreak.{clusters-nil, clusters-parted, break_from_end}
 use Rattle.nfg_text.proofs.Closure.{first_part}
-use Rattle.nfg_text.proofs.Composing.{nfc-from, tail}
+use Rattle.nfg_text.proofs.Composing.{nfc-from}
 use Rattle.nfg_text.proofs.Cuts.{onto}
 use Rattle.nfg_text.proofs.Equivalence.{clusters_spell_text}
 use Rattle.nfg_text.proofs.Everywhere.{at_all, always, implied}

@@ -3,7 +3,7 @@ use Rattle.std.proofs.Common.{◌≡◌, ◌≢◌, ℕ, Bool, true, false, not,
 use Rattle.std.proofs.lemmas.Bool.{cases_Bool, and_from}
 use Rattle.ucd_normal.specs.CanonicalCombiningClass.{canonical_combining_class as ccc}
 use Rattle.ucd_normal.specs.Decomposition.{decomposition, or_itself}
-use Rattle.ucd_normal.specs.declared.forms.Form.TheVariants.{Nfd, Nfc}
+use Rattle.ucd_normal.specs.declared.forms.Form.TheVariants.{Nfd}
 use Rattle.ucd_normal.proofs.CompositionLemmas.{is_empty}
 use Rattle.unicode_normalization.specs.Hangul.{is_syllable}
 use Rattle.unicode_normalization.specs.QuickCheck.{QuickCheck, Yes, No, Maybe}

@@ -1,5 +1,5 @@
 -- The laws of clusters and normal forms.
-use Rattle.std.specs.Prelude.{◌≡◌, ◌↔◌, ◌⊎◌, ℕ, ◌≤◌, true, false, ◌==◌, List, [], ◌∷◌, ◌++◌, length, map, reverse, take, drop, encode_utf8_all}
+use Rattle.std.specs.Prelude.{◌≡◌, ◌↔◌, ◌⊎◌, ℕ, true, false, ◌==◌, List, [], ◌∷◌, ◌++◌, length, map, reverse, take, drop, encode_utf8_all}
 use Rattle.std.specs.List.{Contains}
 use Rattle.unicode_normalization.specs.Forms.{nfc, nfd}
 use Rattle.unicode_segmentation.specs.Grapheme.{graphemes, is_grapheme_break}
