@@ -163,10 +163,17 @@ fn break_by_neighbors(left: GraphemeClusterBreak, right: GraphemeClusterBreak) -
     ensures { result ≡ break_by_pair true left right }
 {
     match (left, right) {
+        // GB3 to GB5: CR LF holds together, and every control stands alone
         (Cr, Lf) => Some(false),
-        (Control | Cr | Lf, _) | (_, Control | Cr | Lf) => Some(true),
-        (L, L | V | Lv | Lvt) | (Lv | V, V | T) | (Lvt | T, T) => Some(false),
-        (_, Extend | Zwj | SpacingMark) | (Prepend, _) => Some(false),
+        (Cr | Lf | Control, _) => Some(true),
+        (_, Cr | Lf | Control) => Some(true),
+        // GB6 to GB8: a Hangul syllable holds together
+        (L, L | V | Lv | Lvt) => Some(false),
+        (Lv | V, V | T) => Some(false),
+        (Lvt | T, T) => Some(false),
+        // GB9 to GB9b: marks join what comes before, and Prepend what follows
+        (_, Extend | Zwj | SpacingMark) => Some(false),
+        (Prepend, _) => Some(false),
         _ => None,
     }
 }
