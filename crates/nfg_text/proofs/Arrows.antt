@@ -1,12 +1,11 @@
--- U+2194 is a true exception: what follows it may take its boundary away, and give it one.
-use Rattle.std.proofs.Common.{◌≡◌, false, [], ◌∷◌, ◌++◌, reverse, refl, sym, ◌∙◌}
+-- U+2194 is a true exception: what follows may compose with it, and so put a boundary before it.
+use Rattle.std.proofs.Common.{◌≡◌, false, [], ◌∷◌, ◌++◌, reverse, refl, sym, ◌∙◌, true}
 use Rattle.unicode_normalization.specs.Forms.{nfc}
 use Rattle.unicode_normalization.proofs.Computing.{unicode_normalization}
 use Rattle.unicode_segmentation.specs.Grapheme.{is_grapheme_break}
 use Rattle.unicode_segmentation.proofs.Computing.{unicode_segmentation}
 use Rattle.nfg_text.specs.Graphemes.{graphemes_of, starts_safely}
 use Rattle.nfg_text.specs.Laws.{AllSafeStartsDecide}
-use Rattle.std.proofs.Common.{true}
 
 arrow_starts_safely : starts_safely 0x2194 ≡ true
 unfolding unicode_normalization

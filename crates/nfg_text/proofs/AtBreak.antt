@@ -1,11 +1,12 @@
 -- Clusters at a boundary: those of a joined text are those of its parts.
-use Rattle.std.proofs.Common.{◌≡◌, ◌⊎◌, ℕ, ◌+◌, ◌≤◌, Bool, true, false, ◌&&◌, List, [], ◌∷◌, ◌++◌, length, slice_index_or, if◌then◌else◌, refl, sym, ap, ap₂, subst, ◌∙◌, arith, inl, inr, append-nil}
+use Rattle.std.proofs.Common.{◌≡◌, ◌⊎◌, ℕ, ◌+◌, ◌≤◌, Bool, true, false, ◌&&◌, List, [], ◌∷◌, ◌++◌, length, reverse, append_assoc, slice_index_or, if◌then◌else◌, refl, sym, ap, ap₂, subst, ◌∙◌, arith, inl, inr, append-nil}
 use Rattle.std.proofs.lemmas.List.Elements.{Contains-append_cases}
+use Rattle.std.proofs.lemmas.List.{reverse-append}
 use Rattle.std.specs.List.{Contains}
 use Rattle.unicode_segmentation.specs.Grapheme.{is_grapheme_break}
 use Rattle.unicode_segmentation.specs.Segments.{Rule, cut}
 use Rattle.nfg_text.specs.Graphemes.{clusters, cluster_ends}
-use Rattle.nfg_text.specs.Laws.{ClustersAtBreak}
+use Rattle.nfg_text.specs.Laws.{ClustersAtBreak, ClustersWhereBroken}
 use Rattle.nfg_text.proofs.Cuts.{onto, put_first, cut-append, cut-after, cut-before, cut-cons, cut-nil, ReadsOneAhead}
 use Rattle.nfg_text.proofs.LookBack.{rule_forgets}
 use Rattle.nfg_text.proofs.Memories.{rule-last}
@@ -97,3 +98,17 @@ clusters_at_break (x ∷ xs) (y ∷ ys) h =
       | inl none ↦ absurd (omega arith)
       | inr ends ↦ clusters-parted xs ys x y (break_from_end x xs (y ∷ ys) ends)
     ]
+
+-- ---- the same, where the text before a boundary is given whole
+
+pub onto-reverse : (xs before : List ℕ) → onto xs before ≡ reverse xs ++ before
+onto-reverse [] before = refl
+onto-reverse (x ∷ xs) before =
+    onto-reverse xs (x ∷ before) ∙ sym (append_assoc (reverse xs) (x ∷ []) before) ∙ ap (λ l. l ++ before) (sym (reverse-append (x ∷ []) xs))
+
+pub onto-one : (x : ℕ) (xs : List ℕ) → onto xs (x ∷ []) ≡ reverse (x ∷ xs)
+onto-one x xs = onto-reverse xs (x ∷ []) ∙ sym (reverse-append (x ∷ []) xs)
+
+pub clusters_where_broken : ClustersWhereBroken
+clusters_where_broken [] q rest h = ap (λ l. l ++ clusters (q ∷ rest)) (sym clusters-nil)
+clusters_where_broken (x ∷ xs) q rest h = clusters-parted xs rest x q (ap (λ l. is_grapheme_break true l (q ∷ rest)) (onto-one x xs) ∙ h)

@@ -1,6 +1,5 @@
 -- What comes before a stable place stays, whatever follows.
-use Rattle.std.proofs.Common.{◌≡◌, ℕ, ◌<◌, ◌≤◌, Bool, true, List, [], ◌∷◌, ◌++◌, Some, refl, sym, ap, ap₂, subst, ◌∙◌, arith, inl, inr, append-nil, append_assoc}
-use Rattle.std.proofs.Common.{unwrap_or}
+use Rattle.std.proofs.Common.{◌≡◌, ℕ, ◌<◌, ◌≤◌, Bool, true, List, [], ◌∷◌, ◌++◌, Some, refl, sym, ap, ap₂, subst, ◌∙◌, arith, inl, inr, append-nil, append_assoc, unwrap_or}
 use Rattle.ucd_breaks.specs.GraphemeClusterBreak.{grapheme_cluster_break as class}
 use Rattle.ucd_breaks.specs.declared.GraphemeClusterBreak.{GraphemeClusterBreak}
 use Rattle.ucd_breaks.specs.declared.GraphemeClusterBreak.TheVariants.{Lf}
@@ -15,7 +14,7 @@ use Rattle.unicode_normalization.proofs.KeptLemmas.{nfc-alone}
 use Rattle.unicode_segmentation.specs.Grapheme.{break_by_pair, is_grapheme_break}
 use Rattle.nfg_text.specs.Facts.{is_control, BeginsWith}
 use Rattle.nfg_text.specs.Graphemes.{clusters, graphemes_of, is_stable_pair}
-use Rattle.nfg_text.specs.Laws.{GraphemesAtStable}
+use Rattle.nfg_text.specs.Laws.{GraphemesAtStable, ClustersAtLineFeed, NfcAtLineFeed}
 use Rattle.nfg_text.proofs.AsciiFacts.{ascii_stands_alone, class_of_line_feed, pair_parts, break_before_composed}
 use Rattle.nfg_text.proofs.AtBreak.{clusters-nil, clusters-parted}
 use Rattle.nfg_text.proofs.ControlFacts.{controls_stand_alone}
@@ -54,19 +53,20 @@ nfc-line_feed rest =
 nfc-push : (t : List ℕ) (a : ℕ) → a < 0x80 → nfc (a ∷ []) ≡ a ∷ [] → nfc (t ++ a ∷ []) ≡ nfc t ++ a ∷ []
 nfc-push t a low one = normalize-ascii_boundary Nfc t a [] low ∙ ap (λ l. nfc t ++ l) one
 
+pub clusters_at_line_feed : ClustersAtLineFeed
+clusters_at_line_feed x [] =
+    ap clusters (append-nil (x ++ 0xA ∷ [])) ∙ sym (append-nil (clusters (x ++ 0xA ∷ []))) ∙ ap (λ l. clusters (x ++ 0xA ∷ []) ++ l) (sym clusters-nil)
+clusters_at_line_feed x (next ∷ rest) = clusters-after x 0xA next rest (λ before. break_after_line_feed before next rest)
+
+pub nfc_at_line_feed : NfcAtLineFeed
+nfc_at_line_feed x y = normalize-ascii_boundary Nfc x 0xA y (omega arith) ∙ ap (λ l. nfc x ++ l) (nfc-line_feed y)
+
 after_line_feed : (front rest : List ℕ) → graphemes_of ((front ++ 0xA ∷ []) ++ rest) ≡ graphemes_of (front ++ 0xA ∷ []) ++ graphemes_of rest
 after_line_feed front rest =
-    let one : nfc (0xA ∷ []) ≡ 0xA ∷ [] = nfc-line_feed [] ∙ ap (λ l. 0xA ∷ l) (normalize-nil Nfc) in
-    let pushed = nfc-push front 0xA (omega arith) one in
+    let pushed : nfc (front ++ 0xA ∷ []) ≡ nfc front ++ 0xA ∷ [] = nfc_at_line_feed front [] ∙ ap (λ l. nfc front ++ 0xA ∷ l) (normalize-nil Nfc) in
     let whole : nfc ((front ++ 0xA ∷ []) ++ rest) ≡ (nfc front ++ 0xA ∷ []) ++ nfc rest =
-    ap nfc (append_assoc front (0xA ∷ []) rest) ∙ normalize-ascii_boundary Nfc front 0xA rest (omega arith)
-    ∙ ap (λ l. nfc front ++ l) (nfc-line_feed rest) ∙ sym (append_assoc (nfc front) (0xA ∷ []) (nfc rest)) in
-    ap clusters whole ∙ parted (nfc front) (nfc rest) ∙ ap (λ l. clusters l ++ clusters (nfc rest)) (sym pushed)
-  where
-    parted : (p q : List ℕ) → clusters ((p ++ 0xA ∷ []) ++ q) ≡ clusters (p ++ 0xA ∷ []) ++ clusters q
-    parted p [] =
-        ap clusters (append-nil (p ++ 0xA ∷ [])) ∙ sym (append-nil (clusters (p ++ 0xA ∷ []))) ∙ ap (λ l. clusters (p ++ 0xA ∷ []) ++ l) (sym clusters-nil)
-    parted p (q ∷ qs) = clusters-after p 0xA q qs (λ before. break_after_line_feed before q qs)
+    ap nfc (append_assoc front (0xA ∷ []) rest) ∙ nfc_at_line_feed front rest ∙ sym (append_assoc (nfc front) (0xA ∷ []) (nfc rest)) in
+    ap clusters whole ∙ clusters_at_line_feed (nfc front) (nfc rest) ∙ ap (λ l. clusters l ++ clusters (nfc rest)) (sym pushed)
 
 -- ---- between two code points below 80
 

@@ -1,4 +1,5 @@
 mod Examples
+pub mod Alike
 pub mod Arrows
 pub mod AsciiFacts
 pub mod AtBreak

@@ -1,8 +1,8 @@
 -- The facts and laws of `specs/Facts` and `specs/Laws`, each under the name of its definition: what proofs of other crates cite.
 pub use Rattle.nfg_text.proofs.Arrows.{not_all_safe_starts_decide}
 pub use Rattle.nfg_text.proofs.AsciiFacts.{ascii_stands_alone, ascii_pairs_break, ascii_composites_are_ordinary}
-pub use Rattle.nfg_text.proofs.AtBreak.{clusters_at_break}
-pub use Rattle.nfg_text.proofs.AtStable.{graphemes_at_stable}
+pub use Rattle.nfg_text.proofs.AtBreak.{clusters_at_break, clusters_where_broken}
+pub use Rattle.nfg_text.proofs.AtStable.{graphemes_at_stable, clusters_at_line_feed, nfc_at_line_feed}
 pub use Rattle.nfg_text.proofs.BreakFacts.{conjunct_extenders_extend, linkers_are_no_controls, not_all_linkers_extend, pictographs_are_no_controls, consonants_are_no_controls, marks_extend}
 pub use Rattle.nfg_text.proofs.Closure.{nfc_at_break, nfd_of_parts}
 pub use Rattle.nfg_text.proofs.ControlFacts.{controls_stand_alone}

@@ -1,5 +1,5 @@
 -- The properties of code points, read by rows or by trees. A fact on whole decompositions is computed by trees.
-use Rattle.std.proofs.Common.{◌≡◌, ℕ, Bool, List}
+use Rattle.std.proofs.Common.{◌≡◌, ℕ, Bool, List, true, false, ap, ◌∙◌}
 use Rattle.ucd_breaks.specs.GraphemeClusterBreak.{grapheme_cluster_break}
 use Rattle.ucd_breaks.specs.declared.GraphemeClusterBreak.{GraphemeClusterBreak}
 use Rattle.ucd_breaks.proofs.GraphemeClusterBreakLemmas.{grapheme_cluster_break_stepped}
@@ -25,7 +25,6 @@ use Rattle.ucd_table.proofs.Facts.{tree_value, tree_of, tree_value-tree_of}
 use Rattle.ucd_table.proofs.RangedFacts.{points_ok, at_points, Stepped-at_points}
 use Rattle.ucd_table.proofs.Stepped.{Stepped}
 use Rattle.unicode_normalization.proofs.TableFacts.{pick}
-use Rattle.std.proofs.Common.{true, false, ap, ◌∙◌}
 
 abbrev pub Entry : Type 0
 Entry = Tag × List ℕ

@@ -128,7 +128,8 @@ AsciiStandsAlone = (c : ℕ) → c < 0x80 → IsAsciiAlone c
 -- whatever comes before and after, a cluster ends between two neighbors below 80, CR LF aside
 abbrev pub AsciiPairsBreak : Type 0
 AsciiPairsBreak =
-    (a b : ℕ) (before after : List ℕ) → is_stable_pair a b ≡ true → is_grapheme_break true (a ∷ before) (b ∷ after) ≡ true
+    (a b : ℕ) (before after : List ℕ) → is_stable_pair a b ≡ true
+    → is_grapheme_break true (a ∷ before) (b ∷ after) ≡ true
 
 -- what decomposes to a text that begins below 80 is that code point, or has the break class Other
 abbrev pub AsciiCompositesAreOrdinary : Type 0

@@ -48,12 +48,19 @@ starts_safely c = (canonical_combining_class c == 0) && is_yes (quick_check Nfc 
 abbrev pub is_stable_pair : ℕ → ℕ → Bool
 is_stable_pair a b = (nat_lt a 0x80 && nat_lt b 0x80) && not ((a == 0xD) && (b == 0xA))
 
--- The place between x and y is stable: it is the start of the text, or comes after a line feed, or between such neighbors.
+-- the text ends with a line feed
+abbrev pub EndsLine : List ℕ → Type 0
+EndsLine x = (front : List ℕ) × (x ≡ front ++ 0xA ∷ [])
+
+-- such neighbors meet where the texts are joined
+abbrev pub MeetStably : List ℕ → List ℕ → Type 0
+MeetStably x y =
+    (front : List ℕ) × (a : ℕ) × (b : ℕ) × (back : List ℕ)
+    × (x ≡ front ++ a ∷ []) × (y ≡ b ∷ back) × (is_stable_pair a b ≡ true)
+
+-- the place between the texts is stable: what comes before it stays, whatever follows
 abbrev pub IsStableBetween : List ℕ → List ℕ → Type 0
-IsStableBetween x y =
-    (x ≡ [])
-    ⊎ ((front : List ℕ) × (x ≡ front ++ 0xA ∷ []))
-    ⊎ ((front : List ℕ) × (a : ℕ) × (b : ℕ) × (back : List ℕ) × (x ≡ front ++ a ∷ []) × (y ≡ b ∷ back) × (is_stable_pair a b ≡ true))
+IsStableBetween x y = (x ≡ []) ⊎ EndsLine x ⊎ MeetStably x y
 
 -- the number is that of the greatest stable place of the text
 pub record IsStableLen (t : List ℕ) (len : ℕ) : Type 0 where

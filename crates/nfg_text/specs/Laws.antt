@@ -18,6 +18,12 @@ IsAtBreak x y = (length x ≡ 0) ⊎ Contains (cluster_ends (x ++ y)) (length x)
 abbrev pub ClustersAtBreak : Type 0
 ClustersAtBreak = (x y : List ℕ) → IsAtBreak x y → clusters (x ++ y) ≡ clusters x ++ clusters y
 
+-- so they are where the rules put a boundary between the parts
+abbrev pub ClustersWhereBroken : Type 0
+ClustersWhereBroken =
+    (x : List ℕ) (c : ℕ) (y : List ℕ) → is_grapheme_break true (reverse x) (c ∷ y) ≡ true
+    → clusters (x ++ c ∷ y) ≡ clusters x ++ clusters (c ∷ y)
+
 -- there both parts of a text in NFC are in NFC
 abbrev pub NfcAtBreak : Type 0
 NfcAtBreak = (x y : List ℕ) → IsAtBreak x y → nfc (x ++ y) ≡ x ++ y → (nfc x ≡ x) × (nfc y ≡ y)
@@ -43,6 +49,14 @@ abbrev pub GraphemesAtStable : Type 0
 GraphemesAtStable =
     (x y u : List ℕ) → IsStableBetween x y → graphemes_of (x ++ (y ++ u)) ≡ graphemes_of x ++ graphemes_of (y ++ u)
 
+-- a cluster ends after every line feed
+abbrev pub ClustersAtLineFeed : Type 0
+ClustersAtLineFeed = (x y : List ℕ) → clusters ((x ++ 0xA ∷ []) ++ y) ≡ clusters (x ++ 0xA ∷ []) ++ clusters y
+
+-- and nothing composes with one
+abbrev pub NfcAtLineFeed : Type 0
+NfcAtLineFeed = (x y : List ℕ) → nfc (x ++ 0xA ∷ y) ≡ nfc x ++ 0xA ∷ nfc y
+
 -- `stable_len` gives the greatest stable place
 abbrev pub StableLenIsGreatest : Type 0
 StableLenIsGreatest = (t : List ℕ) → IsStableLen t (stable_len t)
@@ -50,12 +64,14 @@ StableLenIsGreatest = (t : List ℕ) → IsStableLen t (stable_len t)
 -- so the graphemes of that much of a text stay, whatever follows
 abbrev pub GraphemesAtStableLen : Type 0
 GraphemesAtStableLen =
-    (t u : List ℕ) → graphemes_of (t ++ u) ≡ graphemes_of (take (stable_len t) t) ++ graphemes_of (drop (stable_len t) t ++ u)
+    (t u : List ℕ) → graphemes_of (t ++ u)
+    ≡ graphemes_of (take (stable_len t) t) ++ graphemes_of (drop (stable_len t) t ++ u)
 
 -- the first clusters of a text are the clusters of what they spell, and so are the last
 abbrev pub ClustersOfParts : Type 0
 ClustersOfParts =
-    (t : List ℕ) (a b : List (List ℕ)) → clusters t ≡ a ++ b → (clusters (text_of a) ≡ a) × (clusters (text_of b) ≡ b)
+    (t : List ℕ) (a b : List (List ℕ)) → clusters t ≡ a ++ b
+    → (clusters (text_of a) ≡ a) × (clusters (text_of b) ≡ b)
 
 -- both parts of a list of graphemes are lists of graphemes
 abbrev pub PartsAreInNfg : Type 0
@@ -74,7 +90,7 @@ SafeStartsStay = (c : ℕ) → starts_safely c ≡ true → nfc (c ∷ []) ≡ c
 abbrev pub BreaksBefore : List ℕ → ℕ → Type 0
 BreaksBefore t c = is_grapheme_break true (reverse t) (c ∷ []) ≡ true
 
--- What follows may compose with a safe start. Still, a cluster ends before it where the rules say so of the code point alone.
+-- What follows may compose with a safe start. Still, a cluster ends before it where one would before it alone.
 abbrev pub ClustersAtSafeStart : Type 0
 ClustersAtSafeStart =
     (before : List ℕ) (c : ℕ) (y : List ℕ) → starts_safely c ≡ true → BreaksBefore before c
@@ -123,4 +139,5 @@ PlainRunsAreSingles =
 -- the rules put a boundary between two plain code points, whatever comes before and after
 abbrev pub PlainPairsBreak : Type 0
 PlainPairsBreak =
-    (a b : ℕ) (before after : List ℕ) → is_plain a ≡ true → is_plain b ≡ true → is_grapheme_break true (a ∷ before) (b ∷ after) ≡ true
+    (a b : ℕ) (before after : List ℕ) → is_plain a ≡ true → is_plain b ≡ true
+    → is_grapheme_break true (a ∷ before) (b ∷ after) ≡ true

@@ -12,7 +12,8 @@ use Rattle.nfg_text.specs.Graphemes.{starts_safely}
 
 -- further Latin, Greek, Cyrillic, Hiragana, Han, Hangul syllables
 abbrev pub further_ranges : List Range
-further_ranges = (0xC0, 0x2FF) ∷ (0x3A3, 0x3E1) ∷ (0x400, 0x482) ∷ (0x3041, 0x3096) ∷ (0x4E00, 0x9FFF) ∷ (0xAC00, 0xD7A3) ∷ []
+further_ranges =
+    (0xC0, 0x2FF) ∷ (0x3A3, 0x3E1) ∷ (0x400, 0x482) ∷ (0x3041, 0x3096) ∷ (0x4E00, 0x9FFF) ∷ (0xAC00, 0xD7A3) ∷ []
 
 -- what can be seen of ASCII, and these
 abbrev pub plain_ranges : List Range

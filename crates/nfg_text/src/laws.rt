@@ -1,11 +1,12 @@
 //! The facts on the tables of Unicode and the laws of clusters and normal forms. Each function does nothing: its
 //! clauses are what holds.
 ghost use Rattle.nfg_text.specs.Facts.{ConjunctExtendersExtend, LinkersExtend, LinkersAreNoControls, PictographsAreNoControls, ConsonantsAreNoControls, MarksExtend, ControlsStandAlone, CompositesStartWithStarters, StartersStartWithStarters, CompositesKeepBreaks, AsciiStandsAlone, AsciiPairsBreak, AsciiCompositesAreOrdinary, PlainStandsApart};
-ghost use Rattle.nfg_text.specs.Laws.{ClustersAtBreak, NfcAtBreak, NfdOfParts, GraphemesDecideEquivalence, GraphemesSpellNfc, ClustersSpellText, GraphemesAtStable, StableLenIsGreatest, GraphemesAtStableLen, ClustersOfParts, PartsAreInNfg, NfcAtSafeStart, SafeStartsStay, ClustersAtSafeStart, GraphemesAtSafeStart, SafeStartsDecide, AllSafeStartsDecide, MemoriesCutAlike, ClustersOfUtf8, GraphemesAtPlain, PlainRunsAreSingles, PlainPairsBreak};
+ghost use Rattle.nfg_text.specs.Laws.{ClustersAtBreak, ClustersWhereBroken, ClustersAtLineFeed, NfcAtLineFeed, NfcAtBreak, NfdOfParts, GraphemesDecideEquivalence, GraphemesSpellNfc, ClustersSpellText, GraphemesAtStable, StableLenIsGreatest, GraphemesAtStableLen, ClustersOfParts, PartsAreInNfg, NfcAtSafeStart, SafeStartsStay, ClustersAtSafeStart, GraphemesAtSafeStart, SafeStartsDecide, AllSafeStartsDecide, MemoriesCutAlike, ClustersOfUtf8, GraphemesAtPlain, PlainRunsAreSingles, PlainPairsBreak};
 
 /// Where a text is cut at the end of a cluster, its clusters are those of both parts (UAX #29).
 pub fn clusters_at_break()
-    ensures { ClustersAtBreak }
+    ensures at_ends { ClustersAtBreak }
+    ensures by_rules { ClustersWhereBroken }
 {}
 
 /// Where a text in NFC is cut at the end of a cluster, both parts are in NFC.
@@ -30,6 +31,12 @@ pub fn graphemes_at_stable()
     ensures between { GraphemesAtStable }
     ensures greatest { StableLenIsGreatest }
     ensures stay { GraphemesAtStableLen }
+{}
+
+/// A cluster ends after every line feed, and nothing composes with one.
+pub fn line_feeds_stand_alone()
+    ensures clusters { ClustersAtLineFeed }
+    ensures form { NfcAtLineFeed }
 {}
 
 /// What stands at the front or at the back of a list of graphemes is a list of graphemes.
