@@ -38,10 +38,12 @@ is_control Cr = true
 is_control Lf = true
 is_control _ = false
 
+-- InCB is Extend: what may stand between a linker and a consonant (GB9c)
 abbrev pub is_conjunct_extender : IndicConjunctBreak → Bool
 is_conjunct_extender InCb.Extend = true
 is_conjunct_extender _ = false
 
+-- InCB is Linker: a virama, which holds on to a consonant that follows
 abbrev pub is_linker : IndicConjunctBreak → Bool
 is_linker InCb.Linker = true
 is_linker _ = false

@@ -36,11 +36,12 @@ ends_from from (part ∷ parts) = (from + length part) ∷ ends_from (from + len
 abbrev pub cluster_ends : List ℕ → List ℕ
 cluster_ends t = ends_from 0 (clusters t)
 
+-- the answer of a quick check is Yes
 abbrev pub is_yes : QuickCheck → Bool
 is_yes Yes = true
 is_yes _ = false
 
--- nothing before the code point composes with it or moves behind it: its combining class is 0, and its NFC quick check is Yes
+-- Combining class 0 and NFC quick check Yes (UAX #15, section 9): composing never reaches back over the place before it.
 abbrev pub starts_safely : ℕ → Bool
 starts_safely c = (canonical_combining_class c == 0) && is_yes (quick_check Nfc c)
 

@@ -14,7 +14,7 @@ use Rattle.nfg_text.specs.declared.breaks.Memory.{Memory}
 abbrev pub IsAtBreak : List ℕ → List ℕ → Type 0
 IsAtBreak x y = (length x ≡ 0) ⊎ Contains (cluster_ends (x ++ y)) (length x)
 
--- there the clusters are those of both parts
+-- at such a place the clusters are those of both parts
 abbrev pub ClustersAtBreak : Type 0
 ClustersAtBreak = (x y : List ℕ) → IsAtBreak x y → clusters (x ++ y) ≡ clusters x ++ clusters y
 
@@ -24,11 +24,11 @@ ClustersWhereBroken =
     (x : List ℕ) (c : ℕ) (y : List ℕ) → is_grapheme_break true (reverse x) (c ∷ y) ≡ true
     → clusters (x ++ c ∷ y) ≡ clusters x ++ clusters (c ∷ y)
 
--- there both parts of a text in NFC are in NFC
+-- where a cluster of a text in NFC ends, both parts are in NFC
 abbrev pub NfcAtBreak : Type 0
 NfcAtBreak = (x y : List ℕ) → IsAtBreak x y → nfc (x ++ y) ≡ x ++ y → (nfc x ≡ x) × (nfc y ≡ y)
 
--- and its NFD is those of both parts, joined
+-- and the NFD of the text is those of both parts, joined
 abbrev pub NfdOfParts : Type 0
 NfdOfParts = (x y : List ℕ) → IsAtBreak x y → nfc (x ++ y) ≡ x ++ y → nfd (x ++ y) ≡ nfd x ++ nfd y
 
@@ -108,7 +108,7 @@ SafeStartsDecide =
     (x : List ℕ) (c : ℕ) (y : List ℕ) → starts_safely c ≡ true → (c == 0x2194) ≡ false
     → graphemes_of (x ++ c ∷ y) ≡ graphemes_of x ++ graphemes_of (c ∷ y) → BreaksBefore (nfc x) c
 
--- false: U+1F600 U+200D and U+2194 U+0338
+-- without the exception that is false: U+1F600 U+200D and U+2194 U+0338
 abbrev pub AllSafeStartsDecide : Type 0
 AllSafeStartsDecide =
     (x : List ℕ) (c : ℕ) (y : List ℕ) → starts_safely c ≡ true
