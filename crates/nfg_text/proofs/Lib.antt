@@ -25,6 +25,7 @@ pub mod PlainTest
 pub mod Proved
 pub mod Reading
 pub mod SafeStart
+pub mod ScalarFacts
 pub mod Scalars
 pub mod StableLen
 pub mod StarterFacts

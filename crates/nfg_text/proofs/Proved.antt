@@ -13,5 +13,6 @@ pub use Rattle.nfg_text.proofs.Parts.{clusters_of_parts, parts_are_in_nfg}
 pub use Rattle.nfg_text.proofs.PlainFacts.{plain_stands_apart}
 pub use Rattle.nfg_text.proofs.PlainRuns.{plain_pairs_break, graphemes_at_plain, plain_runs_are_singles}
 pub use Rattle.nfg_text.proofs.SafeStart.{nfc_at_safe_start, safe_starts_stay, clusters_at_safe_start, graphemes_at_safe_start, safe_starts_decide}
+pub use Rattle.nfg_text.proofs.ScalarFacts.{nfc_of_text, parts_of_text}
 pub use Rattle.nfg_text.proofs.StableLen.{stable_len_is_greatest, graphemes_at_stable_len}
 pub use Rattle.nfg_text.proofs.StarterFacts.{starters_start_with_starters, composites_start_with_starters}

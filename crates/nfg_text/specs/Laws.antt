@@ -141,3 +141,11 @@ abbrev pub PlainPairsBreak : Type 0
 PlainPairsBreak =
     (a b : ℕ) (before after : List ℕ) → is_plain a ≡ true → is_plain b ≡ true
     → is_grapheme_break true (a ∷ before) (b ∷ after) ≡ true
+
+-- the NFC of a text is a text
+abbrev pub NfcOfText : Type 0
+NfcOfText = (t : List ℕ) → IsText t → IsText (nfc t)
+
+-- what is joined of texts is a text, and parts of a text are texts
+abbrev pub PartsOfText : Type 0
+PartsOfText = (x y : List ℕ) → IsText (x ++ y) ↔ (IsText x × IsText y)
