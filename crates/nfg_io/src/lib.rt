@@ -2,7 +2,9 @@
 #![tactic(auto)]
 
 mod files;
+mod open_path;
 mod sink;
 
 pub use crate::files::{Failed, Files};
+pub use crate::open_path::OpenPath;
 pub use crate::sink::Sink;
