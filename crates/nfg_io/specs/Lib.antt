@@ -1,3 +1,5 @@
 pub mod Causes
 pub mod Files
 pub mod Sink
+pub mod Calls
+pub mod Memory

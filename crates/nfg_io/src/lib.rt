@@ -1,6 +1,7 @@
 //! Files and output as a program sees them: traits that count their faults, objects in memory, and the real ones.
 #![tactic(auto)]
 
+mod calls;
 mod files;
 mod open_path;
 mod sink;
