@@ -3,3 +3,5 @@ pub mod Files
 pub mod Sink
 pub mod Calls
 pub mod Memory
+pub mod Entries
+pub mod Room

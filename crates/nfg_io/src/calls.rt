@@ -1,5 +1,5 @@
 //! The calls of an object in memory, some of which are made to fail.
-ghost use Rattle.std.specs.Prelude.{◌≡◌, OnOk, OnErr, if◌then◌else◌};
+ghost use Rattle.std.specs.Prelude.{◌≡◌, ◌≤◌, OnOk, OnErr, if◌then◌else◌};
 ghost use Rattle.std.specs.FinSet.{insert};
 ghost use Rattle.nfg_io.specs.Calls.{no_calls, fails_next, after_call};
 
@@ -68,7 +68,8 @@ impl Calls {
 
     /// Counts the call that is made now.
     pub fn count(&mut self, failed: bool)
-        ensures { self.new ≡ after_call failed self.old }
+        ensures after { self.new ≡ after_call failed self.old }
+        ensures never_falls { self.old.faults ≤ self.new.faults }
     {
         self.next = match self.next {
             Some(number) => number.checked_add(1),

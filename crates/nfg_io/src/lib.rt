@@ -3,9 +3,13 @@
 
 mod calls;
 mod files;
+mod memory_files;
+mod memory_sink;
 mod open_path;
 mod sink;
+mod stored_file;
 
 pub use crate::files::{Failed, Files};
-pub use crate::open_path::OpenPath;
+pub use crate::memory_files::MemoryFiles;
+pub use crate::memory_sink::MemorySink;
 pub use crate::sink::Sink;
