@@ -1,5 +1,5 @@
 //! Files in memory.
-ghost use Rattle.std.specs.Prelude.{◌≡◌, ◌+◌, ◌≤◌, ◌<◌, length, min, Some, None, false, IfOk, OnOk, OnErr};
+ghost use Rattle.std.specs.Prelude.{◌≡◌, ◌+◌, ◌-◌, ◌≤◌, ◌<◌, length, min, Some, None, false, IfOk, OnOk, OnErr};
 ghost use Rattle.std.specs.Prelude.{is_ok, is_err, IsSome, IfSome};
 ghost use Rattle.std.specs.FinSet.{insert as insert_number};
 ghost use Rattle.std.specs.FinMap.{empty, get, insert};
