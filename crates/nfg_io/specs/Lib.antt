@@ -5,3 +5,4 @@ pub mod Calls
 pub mod Memory
 pub mod Entries
 pub mod Room
+pub mod Real
