@@ -1,10 +1,10 @@
 //! The files of the system.
-ghost use Rattle.std.specs.Prelude.{◌≡◌, None, false};
+ghost use Rattle.std.specs.Prelude.{◌≡◌, ◌≤◌, None, IfSome, false, length};
 
 use crate::open_path::OpenPath;
 use crate::{Failed, Files};
 use std::fs;
-use std::io::Read;
+use std::io::{ErrorKind, Read};
 use std::marker::Model;
 use std::snapshot::Snapshot;
 
@@ -64,25 +64,20 @@ impl<'a, R: std::rt::Files> Files for RealFiles<'a, R> {
     } };
 
     fn open(&mut self, path: &str) -> Result<(), Failed> {
+        self.file = fs::open(self.rt, path).ok();
         self.open_path = OpenPath::of(path);
         self.position = 0;
-        self.broken = Snapshot::of(&false);
-        match fs::open(self.rt, path) {
-            Ok(file) => {
-                self.file = Some(file);
-                Ok(())
-            }
-            Err(_) => {
-                self.broken = Snapshot::of(&true);
-                self.faults = self.faults.saturating_add(1);
-                Err(Failed)
-            }
+        self.broken = Snapshot::of(&self.file.is_none());
+        if self.file.is_none() {
+            self.faults = self.faults.saturating_add(1);
+            return Err(Failed);
         }
+        Ok(())
     }
 
     fn read(&mut self, into: &mut [u8]) -> Result<usize, Failed> {
         if let Some(file) = &mut self.file {
-            if let Ok(count) = file.read(into) {
+            if let Some(count) = read_some(file, into) {
                 if let Some(position) = self.position.checked_add(count as u64) {
                     self.position = position;
                     return Ok(count);
@@ -93,4 +88,21 @@ impl<'a, R: std::rt::Files> Files for RealFiles<'a, R> {
         self.faults = self.faults.saturating_add(1);
         Err(Failed)
     }
+}
+
+// Reads, and again where a signal came between.
+fn read_some<F: Read>(file: &mut F, into: &mut [u8]) -> Option<usize>
+    ensures bound { IfSome result (λ count. count ≤ length into.new) }
+{
+    for _ in 0..u64::MAX {
+        match file.read(into) {
+            Ok(count) => return Some(count),
+            Err(error) => {
+                if error.kind() != ErrorKind::Interrupted {
+                    return None;
+                }
+            }
+        }
+    }
+    None
 }

@@ -1,7 +1,8 @@
 //! Standard output.
-ghost use Rattle.std.specs.Prelude.{◌≡◌, None};
+ghost use Rattle.std.specs.Prelude.{◌≡◌, ◌≤◌, None, IfSome, length};
 
 use crate::{Failed, Sink};
+use std::io::ErrorKind;
 use std::marker::Model;
 
 /// Standard output. It doesn't tell the bytes, and each write goes through at once.
@@ -31,12 +32,30 @@ impl<'a, R: Print> Sink for RealSink<'a, R> {
     ghost state = { λ faults. record { faults = faults; taken = None } };
 
     fn write(&mut self, piece: &[u8]) -> Result<usize, Failed> {
-        match self.rt.write_some(piece) {
-            Ok(count) if count != 0 => Ok(count),
+        match write_some(self.rt, piece) {
+            // what takes nothing would be called for ever
+            Some(count) if count != 0 => Ok(count),
             _ => {
                 self.faults = self.faults.saturating_add(1);
                 Err(Failed)
             }
         }
     }
+}
+
+// Writes, and again where a signal came between.
+fn write_some<R: Print>(rt: &R, piece: &[u8]) -> Option<usize>
+    ensures bound { IfSome result (λ count. count ≤ length piece.now) }
+{
+    for _ in 0..u64::MAX {
+        match rt.write_some(piece) {
+            Ok(count) => return Some(count),
+            Err(error) => {
+                if error.kind() != ErrorKind::Interrupted {
+                    return None;
+                }
+            }
+        }
+    }
+    None
 }
