@@ -1,0 +1,9 @@
+pub mod Causes
+pub mod Files
+pub mod Sink
+pub mod Calls
+pub mod Memory
+pub mod Real
+pub mod Entries
+pub mod Room
+pub mod Codes
