@@ -1,0 +1,5 @@
+pub mod Known
+pub mod Represents
+pub mod Refusal
+pub mod OwnTexts
+pub mod OwnTextsLaws
