@@ -1,13 +1,14 @@
 -- The texts of an `OwnTable` after one more is interned.
-use Rattle.std.proofs.Common.{◌≡◌, ◌≢◌, ℕ, zero, suc, ◌+◌, ◌<◌, ◌≤◌, List, [], ◌∷◌, ◌++◌, length, slice_get, Some, is_some, refl, sym, ap, subst, ◌∙◌, arith, ◌⊎◌, inl, inr, negsuc, length-append}
+use Rattle.std.proofs.Common.{◌≡◌, ◌≢◌, ℕ, zero, suc, ◌+◌, ◌<◌, ◌≤◌, List, [], ◌∷◌, ◌++◌, length, slice_get, Some, is_some, refl, sym, ap, subst, ◌∙◌, arith, ◌⊎◌, inl, inr, negsuc}
 use Rattle.std.proofs.lemmas.Grind.{common_steps}
 use Rattle.std.proofs.lemmas.Option.{slice_get_within, slice_get_past, slice_get-get_or}
 use mathlib.Core.Logic.{dite}
 use native.Mathlib.Decide.{ℕ_discrete}
-use Rattle.nfg_syn.specs.Known.{IsWithin, IsUnknown, MapsBesides, Keeps, IsInternable, crlf}
+use Rattle.nfg_syn.specs.Known.{IsWithin, IsUnknown, MapsBesides, IsInternable, crlf}
+use Rattle.nfg_syn.specs.Seen.{Keeps}
 use Rattle.nfg_syn.specs.Refusal.{IsTableFull}
 use Rattle.nfg_syn.specs.OwnTexts.{OwnTexts, AreTextsOf, IsOwnPass, known_of, places_of, seen_of}
-use Rattle.nfg_syn.specs.OwnTextsLaws.{same_text}
+use Rattle.nfg_syn.specs.KnownLaws.{same_text}
 
 -- a new text stands at the place that was free
 pub slice_get-push_last : (texts : List (List ℕ)) (t : List ℕ) → slice_get (texts ++ t ∷ []) (length texts) ≡ Some t

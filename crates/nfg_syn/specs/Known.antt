@@ -1,5 +1,5 @@
 -- Knowledge of a table of synthetics: which texts a pass knows by which numbers (this project's own).
-use Rattle.std.specs.Prelude.{◌≡◌, ◌≢◌, ℕ, zero, suc, ◌+◌, ◌^◌, ◌<◌, ◌≤◌, List, [], ◌∷◌, length, Bool, true, Option, Some, None, ℤ, pos, negsuc}
+use Rattle.std.specs.Prelude.{◌≡◌, ◌≢◌, ℕ, zero, suc, ◌^◌, ◌<◌, ◌≤◌, List, [], ◌∷◌, length, Option, Some, None, ℤ, pos, negsuc}
 use Rattle.nfg_text.specs.Text.{IsText}
 
 -- CR LF, whose number is -1 in every table
@@ -69,41 +69,6 @@ pub record IsKnowledge (size : ℕ) (known places : Texts) : Type 0 where
   -- the text of the number -(k + 2) is the text at place k
   pub tied : (k : ℕ) (t : List ℕ) → known (suc k) ≡ Some t → places k ≡ Some t
 
--- what contracts see of a pass
-pub record Seen : Type 1 where
-  pub known : Texts
-  pub places : Texts
-  -- `new` made the pass
-  pub root : Bool
-  -- how many passes were forked from it
-  pub forks : ℕ
-  -- how many meets went into it, with those of the passes that it met
-  pub meets : ℕ
-  -- why the table may refuse this text, and why it may refuse any text
-  pub full : List ℕ → Type 0
-  pub drained : Type 0
-
--- What every call keeps of a pass that it is lent: knowledge only grows, and a reason for a
--- refusal stays one.
-pub record Keeps (old new : Seen) : Type 0 where
-  pub known : IsWithin old.known new.known
-  pub places : IsWithin old.places new.places
-  pub root : new.root ≡ old.root
-  pub full : (t : List ℕ) → old.full t → new.full t
-  pub drained : old.drained → new.drained
-
--- no pass was forked from it or met in it
-pub record SameCounts (old new : Seen) : Type 0 where
-  pub forks : new.forks ≡ old.forks
-  pub meets : new.meets ≡ old.meets
-
--- the pass is as before in all that contracts see
-pub record IsUnchanged (old new : Seen) : Type 0 where
-  pub kept : Keeps old new
-  pub known : IsSame old.known new.known
-  pub places : IsSame old.places new.places
-  pub counts : SameCounts old new
-
 -- CR LF alone is known
 abbrev pub only_crlf : Texts
 only_crlf zero = Some crlf
@@ -112,11 +77,3 @@ only_crlf (suc k) = None
 -- nothing is known
 abbrev pub nothing : Texts
 nothing k = None
-
--- the pass that comes with a new table
-pub record IsFirst (pass : Seen) : Type 0 where
-  pub known : IsSame only_crlf pass.known
-  pub places : IsSame nothing pass.places
-  pub root : pass.root ≡ true
-  pub forks : pass.forks ≡ 0
-  pub meets : pass.meets ≡ 0

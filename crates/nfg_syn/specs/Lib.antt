@@ -1,5 +1,9 @@
 pub mod Known
-pub mod Represents
-pub mod Refusal
+pub mod KnownLaws
 pub mod OwnTexts
 pub mod OwnTextsLaws
+pub mod Refusal
+pub mod Represents
+pub mod RepresentsLaws
+pub mod Seen
+pub mod SeenLaws

@@ -1,6 +1,7 @@
 -- What the pass of an `OwnTable` holds, and what contracts see of it (this project's own).
 use Rattle.std.specs.Prelude.{◌≡◌, ◌≢◌, ℕ, zero, suc, ◌≤◌, List, length, slice_get, Some, true}
-use Rattle.nfg_syn.specs.Known.{Texts, Seen, IsRowSize, IsInternable, crlf}
+use Rattle.nfg_syn.specs.Known.{Texts, IsRowSize, IsInternable, crlf}
+use Rattle.nfg_syn.specs.Seen.{Seen}
 use Rattle.nfg_syn.specs.Refusal.{IsTableFull, NeverDrained}
 
 -- the size of the table, and the texts that were interned besides CR LF, in order

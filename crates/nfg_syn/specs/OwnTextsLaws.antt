@@ -1,13 +1,10 @@
 -- What the pass of an `OwnTable` holds is knowledge, as the trait `Synthetics` asks.
-use Rattle.std.proofs.Common.{◌≡◌, ◌≢◌, ℕ, zero, suc, ◌<◌, ◌≤◌, ◌^◌, List, [], ◌∷◌, length, slice_get, Some, refl, sym, ap, subst, arith}
-use Rattle.std.proofs.Math.Pow.{pow_mono}
+use Rattle.std.proofs.Common.{◌≡◌, ℕ, zero, suc, ◌<◌, ◌≤◌, List, Some, refl, sym, ap, subst, arith}
 use Rattle.std.proofs.lemmas.Option.{slice_get_within}
 use Rattle.nfg_syn.specs.Known.{IsKnowledge, IsOneToOne, IsInternable, IsRowSize, crlf}
 use Rattle.nfg_syn.specs.Refusal.{IsTableFull}
-use Rattle.nfg_syn.specs.OwnTexts.{OwnTexts, AreTextsOf, IsOwnPass, known_of, places_of, seen_of}
-
-pub same_text : (t u : List ℕ) → Some t ≡ Some u → t ≡ u
-same_text t u e = cc
+use Rattle.nfg_syn.specs.KnownLaws.{same_text}
+use Rattle.nfg_syn.specs.OwnTexts.{OwnTexts, AreTextsOf, IsOwnPass, known_of, places_of}
 
 -- CR LF is a text of two code points
 pub crlf_internable : IsInternable crlf
@@ -34,10 +31,6 @@ knowledge_of size pass own = record {
   rows = rows_of size pass.texts own.lawful;
   tied = λ k t e. e;
 }
-
--- a table has at most 2^20 places
-pub row_size_most : (size : ℕ) → IsRowSize size → size ≤ 1048576
-row_size_most size is = let most : 2 ^ is.exponent ≤ 2 ^ 20 = pow_mono is.at_most_2_20 in let power = is.power in omega arith
 
 pub row_size_of : (size : ℕ) (pass : OwnTexts) → IsOwnPass size pass → IsRowSize size
 row_size_of size pass own = own.lawful.row_size

@@ -1,5 +1,5 @@
 -- Why a table of synthetics refuses a text (this project's own).
-use Rattle.std.specs.Prelude.{◌≡◌, ◌≢◌, ℕ, ◌<◌, List, Some, IsSome}
+use Rattle.std.specs.Prelude.{◌≢◌, ℕ, ◌<◌, List, Some, IsSome}
 use Rattle.nfg_syn.specs.Known.{Texts}
 
 -- each of the table's places holds a text, and none of them holds t

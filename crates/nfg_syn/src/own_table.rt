@@ -1,6 +1,7 @@
 //! The table of one caller.
 ghost use Rattle.std.specs.Prelude.{◌≡◌, ◌≢◌, ◌↔◌, ◌<◌, ◌≤◌, ◌<ℤ◌, ℕ, suc, negsuc, length, Some, IfSome, IfNone, IfOk, OnErr};
-ghost use Rattle.nfg_syn.specs.Known.{IsFirst, IsRowSize, IsInternable, IsUnknown, IsSame, Keeps, SameCounts, MapsBesides, text_at, crlf};
+ghost use Rattle.nfg_syn.specs.Known.{IsRowSize, IsInternable, IsUnknown, IsSame, MapsBesides, text_at, crlf};
+ghost use Rattle.nfg_syn.specs.Seen.{IsFirst, Keeps, SameCounts};
 ghost use Rattle.nfg_syn.specs.OwnTexts.{OwnTexts, IsOwnPass, known_of, seen_of};
 
 use crate::text_list::TextList;

@@ -1,6 +1,7 @@
 //! The trait of every table of synthetics.
 ghost use Rattle.std.specs.Prelude.{◌≡◌, ◌↔◌, ◌<◌, ℕ, ℤ, negsuc, List, length, slice_get, Some, IsSome, IfSome, IfOk, OnErr};
-ghost use Rattle.nfg_syn.specs.Known.{Seen, Keeps, SameCounts, IsSame, IsKnowledge, IsInternable, IsRowSize, MapsBesides, text_at, crlf};
+ghost use Rattle.nfg_syn.specs.Seen.{Seen, Keeps, SameCounts};
+ghost use Rattle.nfg_syn.specs.Known.{IsSame, IsKnowledge, IsInternable, IsRowSize, MapsBesides, text_at, crlf};
 ghost use Rattle.nfg_syn.specs.Refusal.{IsTableFull};
 
 use std::alloc::{AllocError, Global};

@@ -1,8 +1,8 @@
-use Rattle.std.proofs.Common.{◌≡◌, ◌≢◌, ℕ, ◌+◌, ◌≤◌, ◌<◌, ◌∷◌, [], ◌++◌, List, suc, negsuc, length, Some, Ok, Err, Result, ℤ, to_z, of_z, w32, rules, refl, sym, ap, ◌∙◌, arith, subst}
+use Rattle.std.proofs.Common.{◌≡◌, ◌≢◌, ℕ, ◌≤◌, ◌∷◌, [], ◌++◌, List, suc, negsuc, length, Some, Ok, Err, Result, ℤ, to_z, of_z, w32, rules, refl, sym, ap, ◌∙◌, arith, subst}
 use Rattle.nfg_syn.specs.Known.{IsUnknown, MapsBesides, crlf}
 use Rattle.nfg_syn.specs.declared.synthetics.InternError.TheVariants.{OutOfMemory}
 use Rattle.nfg_syn.specs.OwnTexts.{OwnTexts, IsOwnPass, known_of}
-use Rattle.nfg_syn.specs.OwnTextsLaws.{row_size_most}
+use Rattle.nfg_syn.specs.KnownLaws.{row_size_most}
 use Rattle.nfg_syn.proofs.OwnTextsLemmas.{Grown, grown, full_at}
 use Rattle.nfg_syn.proofs.own_table.OwnTableSynthetics.intern.Goals as goal
 
