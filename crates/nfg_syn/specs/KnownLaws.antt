@@ -1,5 +1,5 @@
 -- Laws of finite maps to texts, and of knowledge.
-use Rattle.std.proofs.Common.{◌≡◌, ◌≢◌, ℕ, ◌≤◌, ◌^◌, List, Some, ℤ, pos, negsuc, sym, ap, ◌∙◌, arith}
+use Rattle.std.proofs.Common.{◌≡◌, ◌≢◌, ℕ, ◌≤◌, ◌^◌, List, Some, ℤ, pos, negsuc, sym, refl, ap, ◌∙◌, arith}
 use Rattle.std.proofs.Math.Pow.{pow_mono}
 use mathlib.Core.Logic.{dite}
 use native.Mathlib.Decide.{ℕ_discrete}
@@ -7,6 +7,10 @@ use Rattle.nfg_syn.specs.Known.{Texts, IsKnowledge, IsRowSize, IsWithin, IsSame,
 
 pub same_text : (t u : List ℕ) → Some t ≡ Some u → t ≡ u
 same_text t u e = cc
+
+-- a power of two between the bounds, as 2 ^ 18 for 262,144
+pub row_size_at : (exponent : ℕ) → 4 ≤ exponent → exponent ≤ 20 → IsRowSize (2 ^ exponent)
+row_size_at exponent low high = record { exponent = exponent; power = refl; at_least_16 = low; at_most_2_20 = high }
 
 -- a table has at most 2^20 places
 pub row_size_most : (size : ℕ) → IsRowSize size → size ≤ 1048576

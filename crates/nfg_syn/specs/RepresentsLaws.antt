@@ -1,5 +1,5 @@
 -- Laws of what a list of numbers stands for.
-use Rattle.std.proofs.Common.{◌≡◌, ℕ, suc, List, [], ◌∷◌, ◌++◌, length, take, drop, slice_get, Some, None, Bool, true, false, ℤ, pos, negsuc, refl, sym, ap, ◌∙◌, arith, zero, if◌then◌else◌}
+use Rattle.std.proofs.Common.{◌≡◌, ℕ, suc, List, [], ◌∷◌, ◌++◌, length, take, drop, slice_get, Some, None, Bool, true, false, ℤ, pos, negsuc, refl, sym, ap, ◌∙◌, arith, subst, ◌↔◌, zero, if◌then◌else◌}
 use Rattle.std.proofs.lemmas.Grind.{common_steps}
 use lib.Utf8.{scalar as is_scalar}
 use Rattle.nfg_syn.specs.Known.{Texts, IsKnowledge, IsWithin}
@@ -96,3 +96,10 @@ Represents-numbers size known places knows [] ns (c ∷ cs) r s = absurd r
 Represents-numbers size known places knows (m ∷ ms) ns [] r s = absurd r
 Represents-numbers size known places knows (m ∷ ms) [] (c ∷ cs) r s = absurd s
 Represents-numbers size known places knows (m ∷ ms) (n ∷ ns) (c ∷ cs) r s = let first = spelling-one_to_one size known places knows m n c r.0 s.0 in let rest = Represents-numbers size known places knows ms ns cs r.1 s.1 in cc
+
+-- two lists are equal exactly where the clusters are that they stand for
+pub Represents-same : (size : ℕ) (known places : Texts) → IsKnowledge size known places → (ms ns : List ℤ) (bs cs : List (List ℕ)) → Represents known ms bs → Represents known ns cs → (ms ≡ ns) ↔ (bs ≡ cs)
+Represents-same size known places knows ms ns bs cs r s = (
+  λ same. Represents-clusters known ns bs cs (subst (λ numbers. Represents known numbers bs) same r) s,
+  λ same. Represents-numbers size known places knows ms ns cs (subst (Represents known ms) same r) s,
+)

@@ -1,7 +1,7 @@
 -- A list of texts that is kept as its code points and where each text stands (this project's own).
-use Rattle.std.specs.Prelude.{◌≡◌, ◌≢◌, ℕ, ◌≤◌, List, length, map, slice_get, slice_range, Some, Option, All}
+use Rattle.std.specs.Prelude.{◌≡◌, ℕ, ◌≤◌, List, length, map, slice_range, All}
 use Rattle.nfg_syn.specs.declared.span.Span.{Span}
-use Rattle.nfg_syn.specs.HashChains.{IsLastBefore, hash_of}
+use Rattle.nfg_syn.specs.HashChains.{hash_of}
 
 -- the text at each span
 abbrev pub texts_of : List ℕ → List Span → List (List ℕ)

@@ -6,10 +6,13 @@
 #![tactic(auto)]
 
 mod hash_chains;
+pub mod laws;
 mod own_table;
 mod shared;
 mod span;
 mod synthetics;
+#[cfg(test)]
+mod tests;
 mod text_list;
 
 pub use own_table::{OwnPass, OwnTable};

@@ -1,4 +1,4 @@
-use Rattle.std.proofs.Common.{◌≤◌, length, arith}
+use Rattle.std.proofs.Common.{length, arith}
 use Rattle.nfg_syn.proofs.HashChainsLemmas.{IsLast-link, found_last}
 use Rattle.nfg_syn.proofs.hash_chains.find_before.Goals as goal
 

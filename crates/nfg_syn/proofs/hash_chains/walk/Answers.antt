@@ -1,4 +1,4 @@
-use Rattle.std.proofs.Common.{◌≡◌, ◌≢◌, ℕ, ◌+◌, ◌-◌, ◌<◌, ◌≤◌, slice_index, length, refl, sym, subst, arith}
+use Rattle.std.proofs.Common.{◌≡◌, ◌+◌, ◌-◌, length, refl, subst, arith}
 use Rattle.nfg_syn.proofs.HashChainsLemmas.{IsAt, link-below, walked}
 use Rattle.nfg_syn.proofs.hash_chains.walk.Goals as goal
 

@@ -1,5 +1,4 @@
-use Rattle.std.proofs.Common.{◌≡◌, ◌≢◌, ◌+◌, ◌<◌, ◌≤◌, ℕ, length, slice_index}
-use Rattle.nfg_syn.specs.HashChains.{bucket_of}
+use Rattle.std.proofs.Common.{length}
 use Rattle.nfg_syn.proofs.HashChainsLemmas.{IsAt}
 use Rattle.nfg_syn.proofs.hash_chains.walk.Given as goal
 

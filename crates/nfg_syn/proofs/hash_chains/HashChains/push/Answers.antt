@@ -1,4 +1,4 @@
-use Rattle.std.proofs.Common.{◌++◌, ◌∷◌, [], ap, sym, ◌∙◌, length}
+use Rattle.std.proofs.Common.{◌++◌, ◌∷◌, [], ap, sym, ◌∙◌}
 use Rattle.nfg_syn.proofs.HashChainsLemmas.{linked-pushed}
 use Rattle.nfg_syn.proofs.hash_chains.HashChains.push.Goals as goal
 

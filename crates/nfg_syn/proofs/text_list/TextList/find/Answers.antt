@@ -1,8 +1,8 @@
-use Rattle.std.proofs.Common.{◌≡◌, ◌≢◌, ℕ, List, map, slice_get, Some, Option, refl, sym, ap, ◌∙◌, subst}
+use Rattle.std.proofs.Common.{◌≡◌, ◌≢◌, map, slice_get, Some, refl, sym, ap, ◌∙◌, subst}
 use Rattle.std.proofs.lemmas.Slice.Eq.{slice_eq-Decides}
 use Rattle.std.proofs.lemmas.Bool.Decides.{Decides-eqb, not_from_Decides}
 use Rattle.nfg_syn.specs.KnownLaws.{same_text}
-use Rattle.nfg_syn.specs.HashChains.{IsLastBefore, hash_of}
+use Rattle.nfg_syn.specs.HashChains.{hash_of}
 use Rattle.nfg_syn.proofs.TextListLemmas.{IsLeft, left_next, left_none}
 use Rattle.nfg_syn.proofs.text_list.TextList.find.Goals as goal
 

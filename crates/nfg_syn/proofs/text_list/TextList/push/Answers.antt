@@ -1,7 +1,5 @@
-use Rattle.std.proofs.Common.{◌≡◌, ◌+◌, ◌++◌, ◌∷◌, [], ℕ, List, length, vec_len, refl, sym, ap, ◌∙◌, subst}
+use Rattle.std.proofs.Common.{◌+◌, ◌++◌, ◌∷◌, [], List, length, vec_len, ap, ◌∙◌}
 use Rattle.nfg_syn.specs.declared.span.Span.{Span}
-use Rattle.nfg_syn.specs.HashChains.{hash_of}
-use Rattle.nfg_syn.specs.TextList.{IsTextList, texts_of}
 use Rattle.nfg_syn.proofs.TextListLemmas.{IsPushed, pushed_at}
 use Rattle.nfg_syn.proofs.text_list.TextList.push.Goals as goal
 
