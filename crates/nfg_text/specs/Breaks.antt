@@ -1,4 +1,4 @@
--- What the rules of UAX #29 on grapheme clusters read of the text before a place, held in a few fields (this project's own).
+-- What the cluster rules of UAX #29 read of the text before a place, in a few fields (this project's own).
 use Rattle.std.specs.Prelude.{◌≡◌, ℕ, Bool, true, false, not, ◌&&◌, ◌||◌, List, [], ◌∷◌, map, unwrap_or}
 use Rattle.ucd_breaks.specs.GraphemeClusterBreak.{grapheme_cluster_break}
 use Rattle.ucd_breaks.specs.declared.GraphemeClusterBreak.{GraphemeClusterBreak}
@@ -6,9 +6,15 @@ use Rattle.ucd_derived.specs.IndicConjunctBreak.{indic_conjunct_break}
 use Rattle.ucd_derived.specs.declared.IndicConjunctBreak.{IndicConjunctBreak}
 use Rattle.ucd_derived.specs.declared.IndicConjunctBreak.TheVariants.{Linker, Extend}
 use Rattle.ucd_emoji.specs.Binary.{is_extended_pictographic}
+use Rattle.ucd_table.specs.Rows.{Range}
 use Rattle.unicode_segmentation.specs.Grapheme.{break_by_pair, ends_in_linker, ends_in_pictograph, ends_in_half_flag, is_consonant, is_zwj, is_regional}
 use Rattle.nfg_text.specs.declared.breaks.Kind.{Kind}
 use Rattle.nfg_text.specs.declared.breaks.Memory.{Memory}
+
+-- all Extended_Pictographic code points lie in these ranges
+abbrev pub pictograph_blocks : List Range
+pictograph_blocks =
+    (0xA9, 0xAE) ∷ (0x203C, 0x2B55) ∷ (0x3030, 0x303D) ∷ (0x3297, 0x3299) ∷ (0x1F000, 0x1FFFF) ∷ []
 
 -- the kind holds the three properties of the code point that the rules read
 pub record IsKindOf (kind : Kind) (c : ℕ) : Type 0 where
@@ -40,8 +46,14 @@ is_linked_after Linker before = true
 is_linked_after Extend before = before
 is_linked_after _ before = false
 
--- whether the rules put a boundary between a text with this memory and a next code point of this kind
+-- a rule that looks back holds the next code point of this kind to a text with this memory
+abbrev pub joins_by_memory : Memory → Kind → Bool
+joins_by_memory memory next =
+    (memory.after_linker && is_consonant next.conjunct)
+    || (memory.after_joiner && next.is_pictograph)
+    || (memory.half_flag && is_regional next.class)
+
+-- whether the rules put a boundary between the two
 abbrev pub breaks_by_memory : Memory → Kind → Bool
 breaks_by_memory memory next =
-    unwrap_or (break_by_pair true memory.class next.class)
-    (not ((memory.after_linker && is_consonant next.conjunct) || (memory.after_joiner && next.is_pictograph) || (memory.half_flag && is_regional next.class)))
+    unwrap_or (break_by_pair true memory.class next.class) (not (joins_by_memory memory next))

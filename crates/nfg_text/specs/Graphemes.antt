@@ -1,5 +1,5 @@
 -- Graphemes: the extended grapheme clusters (UAX #29) of a text in Normalization Form C (UAX #15).
-use Rattle.std.specs.Prelude.{◌≡◌, ℕ, ◌+◌, ◌<◌, ◌≤◌, suc, Bool, true, false, not, ◌&&◌, ◌||◌, ◌==◌, nat_lt, List, [], ◌∷◌, ◌++◌, length, take, drop, ◌⊎◌, if◌then◌else◌}
+use Rattle.std.specs.Prelude.{◌≡◌, ℕ, ◌+◌, ◌≤◌, suc, Bool, true, false, not, ◌&&◌, ◌||◌, ◌==◌, nat_lt, List, [], ◌∷◌, ◌++◌, length, take, drop, ◌⊎◌, if◌then◌else◌}
 use Rattle.ucd_normal.specs.CanonicalCombiningClass.{canonical_combining_class}
 use Rattle.unicode_normalization.specs.Forms.{nfc, nfd, Nfc}
 use Rattle.unicode_normalization.specs.QuickCheck.{QuickCheck, Yes, quick_check}
@@ -36,11 +36,12 @@ ends_from from (part ∷ parts) = (from + length part) ∷ ends_from (from + len
 abbrev pub cluster_ends : List ℕ → List ℕ
 cluster_ends t = ends_from 0 (clusters t)
 
+-- the answer of a quick check is Yes
 abbrev pub is_yes : QuickCheck → Bool
 is_yes Yes = true
 is_yes _ = false
 
--- nothing before the code point composes with it or moves behind it: its combining class is 0, and its NFC quick check is Yes
+-- Combining class 0 and NFC quick check Yes (UAX #15, section 9): composing never reaches back over the place before it.
 abbrev pub starts_safely : ℕ → Bool
 starts_safely c = (canonical_combining_class c == 0) && is_yes (quick_check Nfc c)
 
@@ -48,12 +49,19 @@ starts_safely c = (canonical_combining_class c == 0) && is_yes (quick_check Nfc 
 abbrev pub is_stable_pair : ℕ → ℕ → Bool
 is_stable_pair a b = (nat_lt a 0x80 && nat_lt b 0x80) && not ((a == 0xD) && (b == 0xA))
 
--- The place between x and y is stable: it is the start of the text, or comes after a line feed, or between such neighbors.
+-- the text ends with a line feed
+abbrev pub EndsLine : List ℕ → Type 0
+EndsLine x = (front : List ℕ) × (x ≡ front ++ 0xA ∷ [])
+
+-- such neighbors meet where the texts are joined
+abbrev pub MeetStably : List ℕ → List ℕ → Type 0
+MeetStably x y =
+    (front : List ℕ) × (a : ℕ) × (b : ℕ) × (back : List ℕ)
+    × (x ≡ front ++ a ∷ []) × (y ≡ b ∷ back) × (is_stable_pair a b ≡ true)
+
+-- the place between the texts is stable: what comes before it stays, whatever follows
 abbrev pub IsStableBetween : List ℕ → List ℕ → Type 0
-IsStableBetween x y =
-    (x ≡ [])
-    ⊎ ((front : List ℕ) × (x ≡ front ++ 0xA ∷ []))
-    ⊎ ((front : List ℕ) × (a : ℕ) × (b : ℕ) × (back : List ℕ) × (x ≡ front ++ a ∷ []) × (y ≡ b ∷ back) × (is_stable_pair a b ≡ true))
+IsStableBetween x y = (x ≡ []) ⊎ EndsLine x ⊎ MeetStably x y
 
 -- the number is that of the greatest stable place of the text
 pub record IsStableLen (t : List ℕ) (len : ℕ) : Type 0 where

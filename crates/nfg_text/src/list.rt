@@ -183,13 +183,13 @@ impl EndList {
 /// A list of bytes.
 #[derive(Drop)]
 pub struct ByteList {
-    bytes: Vec<u8>,
+    octets: Vec<u8>,
 }
 
 impl Model for ByteList {
     ghost Value = { List ℕ };
 
-    ghost view = { λ list. list.bytes.items };
+    ghost view = { λ list. list.octets.items };
 }
 
 impl ByteList {
@@ -198,7 +198,7 @@ impl ByteList {
         ensures { result ≡ [] }
     {
         ByteList {
-            bytes: Vec::new(alloc),
+            octets: Vec::new(alloc),
         }
     }
 
@@ -206,22 +206,22 @@ impl ByteList {
     pub fn from_slice(alloc: Global, elements: &[u8]) -> Result<ByteList, AllocError>
         ensures { IfOk result (λ list. list ≡ elements.now) }
     {
-        let bytes = Vec::from_slice(alloc, elements)?;
-        Ok(ByteList { bytes })
+        let octets = Vec::from_slice(alloc, elements)?;
+        Ok(ByteList { octets })
     }
 
     /// The elements of a vector, which is not copied.
-    pub fn from_vec(bytes: Vec<u8>) -> ByteList
-        ensures { result ≡ bytes.items }
+    pub fn from_vec(octets: Vec<u8>) -> ByteList
+        ensures { result ≡ octets.items }
     {
-        ByteList { bytes }
+        ByteList { octets }
     }
 
     /// The vector that holds the elements, which is not copied.
     pub fn into_vec(self) -> Vec<u8>
         ensures { result.items ≡ self }
     {
-        self.bytes
+        self.octets
     }
 
     /// Adds the elements at the end.
@@ -229,41 +229,41 @@ impl ByteList {
         ensures ok { OnOk result (self.new ≡ self.old ++ more.now) }
         ensures err { OnErr result (self.new ≡ self.old) }
     {
-        self.bytes.extend_from_slice(more)
+        self.octets.extend_from_slice(more)
     }
 
     /// Makes room for so many more elements, so that adding them grows nothing.
     pub fn reserve(&mut self, additional: usize) -> Result<(), AllocError>
         ensures { self.new ≡ self.old }
     {
-        self.bytes.reserve(additional)
+        self.octets.reserve(additional)
     }
 
     /// Keeps the first `len` elements.
     pub fn truncate(&mut self, len: usize)
         ensures { self.new ≡ take len self.old }
     {
-        self.bytes.truncate(len);
+        self.octets.truncate(len);
     }
 
     /// The number of elements.
     pub fn len(&self) -> usize
         ensures { result ≡ length self.now }
     {
-        self.bytes.len()
+        self.octets.len()
     }
 
     /// Whether there is no element.
     pub fn is_empty(&self) -> bool
         ensures { result ≡ (length self.now == 0) }
     {
-        self.bytes.is_empty()
+        self.octets.is_empty()
     }
 
     /// The whole list.
     pub fn as_slice(&self) -> &[u8]
         ensures { result.now ≡ self.now }
     {
-        self.bytes.as_slice()
+        self.octets.as_slice()
     }
 }
