@@ -1,0 +1,4 @@
+mod Examples
+mod HashChainsLemmas
+mod OwnTextsLemmas
+mod TextListLemmas
