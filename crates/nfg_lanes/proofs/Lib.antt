@@ -1,0 +1,5 @@
+pub mod FrontLemmas
+pub mod MaskLemmas
+pub mod NarrowLemmas
+pub mod RunLemmas
+pub mod WidthLemmas

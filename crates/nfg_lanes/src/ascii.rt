@@ -1,0 +1,35 @@
+//! The run of ASCII at the front of a text.
+ghost use Rattle.std.specs.Prelude.{◌≡◌, ◌+◌, ◌≤◌, length};
+ghost use Rattle.std.specs.List.{prefix_len};
+ghost use Rattle.std.specs.Char.{is_ascii};
+ghost use Rattle.std.specs.Simd.Lanes.{chunk};
+
+use crate::block::{LANES8, lanes_before};
+use std::simd::prelude::*;
+
+#[inline(always)]
+fn ascii_in(bytes: &[u8], at: usize) -> usize
+    requires { at + LANES8 ≤ length bytes.now }
+    ensures { result ≡ prefix_len is_ascii (chunk at LANES8 bytes.now) }
+{
+    let others = u8x32::from_slice(&bytes[at..]).simd_ge(u8x32::splat(128));
+    lanes_before(others.to_bitmask(), LANES8)
+}
+
+/// How many bytes at the front are ASCII, below 128.
+pub fn ascii_run(bytes: &[u8]) -> usize
+    ensures { result ≡ prefix_len is_ascii bytes.now }
+{
+    let blocks = bytes.len() / LANES8;
+    for block in 0..blocks {
+        let run = ascii_in(bytes, block * LANES8);
+        if run < LANES8 {
+            return block * LANES8 + run;
+        }
+    }
+    let mut at = blocks * LANES8;
+    while at < bytes.len() && bytes[at] < 128 {
+        at += 1;
+    }
+    at
+}
