@@ -48,8 +48,8 @@ front_ends same xs ys i n run so_far left right counted short =
     let vs = chunk i n ys in
     let us_long = length-chunk i n xs left in
     let here =
-        ap₂ (common_prefix_len same) (chunk-drop i n xs) (chunk-drop i n ys)
-        ∙ short_front same us vs (drop (i + n) xs) (drop (i + n) ys) (us_long ∙ sym (length-chunk i n ys right)) (omega (arith, counted, short, us_long))
+    ap₂ (common_prefix_len same) (chunk-drop i n xs) (chunk-drop i n ys)
+    ∙ short_front same us vs (drop (i + n) xs) (drop (i + n) ys) (us_long ∙ sym (length-chunk i n ys right)) (omega (arith, counted, short, us_long))
     in
     omega (arith, so_far.rest, here, counted)
 
@@ -61,9 +61,9 @@ front_fills same xs ys i n run j so_far left right counted full next =
     let vs = chunk i n ys in
     let us_long = length-chunk i n xs left in
     let here =
-        ap₂ (common_prefix_len same) (chunk-drop i n xs) (chunk-drop i n ys)
-        ∙ full_front same us vs (drop (i + n) xs) (drop (i + n) ys) (us_long ∙ sym (length-chunk i n ys right)) (omega (arith, counted, full, us_long))
-        ∙ ap (λ k. k + common_prefix_len same (drop (i + n) xs) (drop (i + n) ys)) us_long
+    ap₂ (common_prefix_len same) (chunk-drop i n xs) (chunk-drop i n ys)
+    ∙ full_front same us vs (drop (i + n) xs) (drop (i + n) ys) (us_long ∙ sym (length-chunk i n ys right)) (omega (arith, counted, full, us_long))
+    ∙ ap (λ k. k + common_prefix_len same (drop (i + n) xs) (drop (i + n) ys)) us_long
     in
     record {
       in_left = omega (arith, left, next);
@@ -106,7 +106,7 @@ back_fills same reflexive xs ys i n j d so_far left right equal next =
     let other : block ≡ chunk i n (reverse ys) = chunk-reverse xs i n d left ∙ ap reverse equal ∙ sym (chunk-reverse ys i n d right) in
     let room : i + n ≤ length (reverse xs) = omega (arith, left, length-reverse xs) in
     let full : n ≡ common_prefix_len same block (chunk i n (reverse ys)) =
-        sym (length-chunk i n (reverse xs) room) ∙ sym (front_of_itself same reflexive block) ∙ ap (common_prefix_len same block) other
+    sym (length-chunk i n (reverse xs) room) ∙ sym (front_of_itself same reflexive block) ∙ ap (common_prefix_len same block) other
     in
     front_fills same (reverse xs) (reverse ys) i n n j so_far room (omega (arith, right, length-reverse ys)) full (omega arith) next
 

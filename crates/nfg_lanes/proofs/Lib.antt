@@ -1,3 +1,4 @@
+pub mod Examples
 pub mod FrontLemmas
 pub mod MaskLemmas
 pub mod NarrowLemmas

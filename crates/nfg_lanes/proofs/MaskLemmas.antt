@@ -77,7 +77,7 @@ pub lanes_before_other : (w : Width) (us vs : List ℤ) (us_bits vs_bits : List 
     → length us ≡ n → length vs ≡ n → n ≤ 64
     → ((k : ℕ) → k < length us → FitsSigned w (get_or us k (pos 0))) → ((k : ℕ) → k < length vs → FitsSigned w (get_or vs k (pos 0)))
     → (let mask = mask_l (map (top (hbits w)) (zip2 (λ a b. cond (not (eqb a b)) (2 ^ bits w - 1) 0) us_bits vs_bits)) % 2 ^ 64 in
-      count ≡ cond (eqb mask 0) n (count_trailing_zeros 64 mask))
+    count ≡ cond (eqb mask 0) n (count_trailing_zeros 64 mask))
     → count ≡ common_prefix_len int_eq us vs
 lanes_before_other w us vs us_bits vs_bits n count us_are vs_are us_long vs_long few us_fit vs_fit counted =
     let left = ap length us_are ∙ length-map us (of_z w) ∙ us_long in
@@ -110,7 +110,7 @@ none_differ (n ∷ ns) = ap₂ (λ b m. cond (not b) 1 0 + 2 * m) (eq-eqb n n re
 pub no_lane_differs : (w : Width) (us vs : List ℤ) (n : ℕ) → length us ≡ n → length vs ≡ n → n ≤ 64
     → ((k : ℕ) → k < length us → FitsSigned w (get_or us k (pos 0))) → ((k : ℕ) → k < length vs → FitsSigned w (get_or vs k (pos 0)))
     → (let mask = mask_l (map (top (hbits w)) (zip2 (λ a b. cond (not (eqb a b)) (2 ^ bits w - 1) 0) (map (of_z w) us) (map (of_z w) vs))) % 2 ^ 64 in
-      (mask ≡ 0 → us ≡ vs) × (us ≡ vs → mask ≡ 0))
+    (mask ≡ 0 → us ≡ vs) × (us ≡ vs → mask ≡ 0))
 no_lane_differs w us vs n us_long vs_long few us_fit vs_fit =
     let left = length-map us (of_z w) ∙ us_long in
     let right = length-map vs (of_z w) ∙ vs_long in

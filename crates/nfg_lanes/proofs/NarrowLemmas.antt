@@ -91,8 +91,8 @@ no_wide_lane zs n long few fits =
     let low = zip2_of_maps below_lane (of_z w32) (λ _. 2 ^ 32 - 1) zs refl (splat_is_map zs n (2 ^ 32 - 1) long) in
     let high = zip2_of_maps below_lane (λ _. 127) (of_z w32) zs (splat_is_map zs n 127 long) refl in
     let lanes =
-        ap (map (top 31)) (zip2_of_maps either_lane (λ z. below_lane (of_z w32 z) (2 ^ 32 - 1)) (λ z. below_lane 127 (of_z w32 z)) zs low high)
-        ∙ map-map (top 31) wide_lane zs
+    ap (map (top 31)) (zip2_of_maps either_lane (λ z. below_lane (of_z w32 z) (2 ^ 32 - 1)) (λ z. below_lane 127 (of_z w32 z)) zs low high)
+    ∙ map-map (top 31) wide_lane zs
     in
     ap (λ l. eqb (mask_l l % 2 ^ 64) 0) lanes
     ∙ ap (λ m. eqb m 0) (mask_l-mod (map (λ z. top 31 (wide_lane z)) zs) 64 (omega (arith, length-map zs (λ z. top 31 (wide_lane z)), long, few)))

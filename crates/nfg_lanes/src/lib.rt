@@ -5,6 +5,8 @@ mod ascii;
 mod block;
 mod common;
 mod first;
+#[cfg(test)]
+mod tests;
 mod width;
 
 pub use ascii::ascii_run;
