@@ -3,7 +3,9 @@ use Rattle.std.proofs.Common.{◌≡◌, ℕ, ◌+◌, ◌-◌, ◌<◌, ◌≤�
 use Rattle.std.proofs.lemmas.Simd.{length-chunk, chunk-drop, get_or-chunk}
 use Rattle.std.proofs.lemmas.List.{length-drop, length-reverse, get_or-reverse, ext_get_or}
 use Rattle.std.proofs.lemmas.List.Sums.{common_prefix_len-le, common_prefix_len-drop_no, common_prefix_len-drop_yes}
+use Rattle.std.specs.Int.{trailing_zeros, w64}
 use Rattle.std.specs.List.{common_prefix_len}
+use Rattle.nfg_lanes.specs.Stops.{StopsAfter}
 use lib.Lanes.{chunk}
 
 -- the common front goes on where it was left, at i
@@ -41,28 +43,28 @@ full_front same (u ∷ us) (v ∷ vs) xs ys long whole =
     (λ rest. full_front same us vs xs ys (omega (arith, long)) rest)
 
 -- a front that ends in the blocks at i
-pub front_ends : {X : Type 0} (same : X → X → Bool) (xs ys : List X) (i n run : ℕ) → FrontsTo same xs ys i → i + n ≤ length xs → i + n ≤ length ys
-    → run ≡ common_prefix_len same (chunk i n xs) (chunk i n ys) → run < n → i + run ≡ common_prefix_len same xs ys
-front_ends same xs ys i n run so_far left right counted short =
+pub front_ends : {X : Type 0} (same : X → X → Bool) (xs ys : List X) (i n mask : ℕ) → FrontsTo same xs ys i → i + n ≤ length xs → i + n ≤ length ys
+    → StopsAfter (common_prefix_len same (chunk i n xs) (chunk i n ys)) n mask → ¬ (mask ≡ 0) → i + trailing_zeros w64 mask ≡ common_prefix_len same xs ys
+front_ends same xs ys i n mask so_far left right stop set =
     let us = chunk i n xs in
     let vs = chunk i n ys in
     let us_long = length-chunk i n xs left in
     let here =
     ap₂ (common_prefix_len same) (chunk-drop i n xs) (chunk-drop i n ys)
-    ∙ short_front same us vs (drop (i + n) xs) (drop (i + n) ys) (us_long ∙ sym (length-chunk i n ys right)) (omega (arith, counted, short, us_long))
+    ∙ short_front same us vs (drop (i + n) xs) (drop (i + n) ys) (us_long ∙ sym (length-chunk i n ys right)) (omega (arith, stop.inside set, us_long))
     in
-    omega (arith, so_far.rest, here, counted)
+    omega (arith, so_far.rest, here, stop.first set)
 
 -- a front that fills the blocks at i
-pub front_fills : {X : Type 0} (same : X → X → Bool) (xs ys : List X) (i n run j : ℕ) → FrontsTo same xs ys i → i + n ≤ length xs → i + n ≤ length ys
-    → run ≡ common_prefix_len same (chunk i n xs) (chunk i n ys) → n ≤ run → j ≡ i + n → FrontsTo same xs ys j
-front_fills same xs ys i n run j so_far left right counted full next =
+pub front_fills : {X : Type 0} (same : X → X → Bool) (xs ys : List X) (i n j : ℕ) → FrontsTo same xs ys i → i + n ≤ length xs → i + n ≤ length ys
+    → common_prefix_len same (chunk i n xs) (chunk i n ys) ≡ n → j ≡ i + n → FrontsTo same xs ys j
+front_fills same xs ys i n j so_far left right full next =
     let us = chunk i n xs in
     let vs = chunk i n ys in
     let us_long = length-chunk i n xs left in
     let here =
     ap₂ (common_prefix_len same) (chunk-drop i n xs) (chunk-drop i n ys)
-    ∙ full_front same us vs (drop (i + n) xs) (drop (i + n) ys) (us_long ∙ sym (length-chunk i n ys right)) (omega (arith, counted, full, us_long))
+    ∙ full_front same us vs (drop (i + n) xs) (drop (i + n) ys) (us_long ∙ sym (length-chunk i n ys right)) (omega (arith, full, us_long))
     ∙ ap (λ k. k + common_prefix_len same (drop (i + n) xs) (drop (i + n) ys)) us_long
     in
     record {
@@ -105,10 +107,10 @@ back_fills same reflexive xs ys i n j d so_far left right equal next =
     let block = chunk i n (reverse xs) in
     let other : block ≡ chunk i n (reverse ys) = chunk-reverse xs i n d left ∙ ap reverse equal ∙ sym (chunk-reverse ys i n d right) in
     let room : i + n ≤ length (reverse xs) = omega (arith, left, length-reverse xs) in
-    let full : n ≡ common_prefix_len same block (chunk i n (reverse ys)) =
-    sym (length-chunk i n (reverse xs) room) ∙ sym (front_of_itself same reflexive block) ∙ ap (common_prefix_len same block) other
+    let full : common_prefix_len same block (chunk i n (reverse ys)) ≡ n =
+    ap (common_prefix_len same block) (sym other) ∙ front_of_itself same reflexive block ∙ length-chunk i n (reverse xs) room
     in
-    front_fills same (reverse xs) (reverse ys) i n n j so_far room (omega (arith, right, length-reverse ys)) full (omega arith) next
+    front_fills same (reverse xs) (reverse ys) i n j so_far room (omega (arith, right, length-reverse ys)) full next
 
 -- over one element that is in common
 pub back_goes_on : {X : Type 0} (same : X → X → Bool) (xs ys : List X) (i : ℕ) (c d : X) → FrontsTo same (reverse xs) (reverse ys) i → i < length xs → i < length ys

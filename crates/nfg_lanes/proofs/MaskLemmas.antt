@@ -4,18 +4,46 @@ use Rattle.std.proofs.lemmas.Bool.{cases_Bool, cases_eq, eq-eqb, ne_eqb, false_f
 use Rattle.std.proofs.lemmas.Bool.Decides.{Decides-int_eq}
 use Rattle.std.proofs.lemmas.Int.{to_z-of_z}
 use Rattle.std.proofs.lemmas.List.{length-map, map-id}
-use Rattle.std.proofs.lemmas.Simd.{map-map, bitmask_splat, first_set_mask_l, get_or-chunk, length-chunk, tops_compared, mask_l-mod, length-zip2, leading_from_mask_l}
+use Rattle.std.proofs.lemmas.Simd.{map-map, bitmask_splat, trailing_mask_l, get_or-chunk, length-chunk, tops_compared, mask_l-mod, length-zip2, leading_from_mask_l}
+use Rattle.std.proofs.lemmas.List.Sums.{prefix_len-le-length}
 use Rattle.std.specs.List.{prefix_len, position_or_len, common_prefix_len}
+use Rattle.nfg_lanes.specs.Stops.{StopsAfter}
 use lib.Count.{count_trailing_zeros}
 use lib.Lanes.{chunk, zip2, mask_l, top}
 use mir.Syntax.{Width}
 use mir.Val.{bits, hbits}
 
--- the count of `lanes_before`, from what the bits of the mask say
-pub counted_lanes : {X : Type 0} (p : X → Bool) (lanes : List X) (n mask count : ℕ) → length lanes ≡ n → n ≤ 64 → mask ≡ mask_l (map p lanes)
-    → count ≡ cond (eqb mask 0) n (count_trailing_zeros 64 mask) → count ≡ position_or_len p lanes
-counted_lanes p lanes n mask count long few bits counted =
-    counted ∙ ap (λ m. cond (eqb m 0) n (count_trailing_zeros 64 m)) bits ∙ first_set_mask_l p lanes n long few
+empty_from_run : {X : Type 0} (p : X → Bool) (lanes : List X) → position_or_len p lanes ≡ length lanes → mask_l (map p lanes) ≡ 0
+empty_from_run p [] full = refl
+empty_from_run p (x ∷ xs) full =
+    elim (cases_Bool (p x)) [
+      | inl stops ↦ absurd (omega (arith, full, ap (λ b. cond (not b) (1 + position_or_len p xs) 0) stops))
+      | inr passes ↦
+          let rest = ap (λ b. cond (not b) (1 + position_or_len p xs) 0) passes in
+          ap₂ (λ b m. cond b 1 0 + 2 * m) passes (empty_from_run p xs (omega (arith, full, rest)))
+    ]
+
+-- a mask whose bit k says whether lane k passes p
+pub stops_before : {X : Type 0} (p : X → Bool) (lanes : List X) (n mask : ℕ) → length lanes ≡ n → n ≤ 64 → mask ≡ mask_l (map p lanes)
+    → StopsAfter (position_or_len p lanes) n mask
+stops_before p lanes n mask long few bits = record {
+  full = λ empty. leading_from_mask_l p lanes (sym bits ∙ empty) ∙ long;
+  first = λ set. ap (count_trailing_zeros 64) bits ∙ trailing_mask_l p 64 lanes (omega (arith, long, few)) (omega (arith, bits, set));
+  inside = λ set.
+      let at_most = prefix_len-le-length (λ x. not (p x)) lanes in
+      elim (cases_eq (position_or_len p lanes) n) [
+        | inl full ↦ absurd (set (bits ∙ empty_from_run p lanes (full ∙ sym long)))
+        | inr short ↦ omega (arith, at_most, long, short)
+      ];
+}
+
+-- the mask of the lanes that equal x
+abbrev pub equal_mask : Width → List ℤ → ℕ → ℤ → ℕ
+equal_mask w lanes n x = mask_l (map (top (hbits w)) (zip2 (λ a b. cond (eqb a b) (2 ^ bits w - 1) 0) (map (of_z w) lanes) (replicate n (of_z w x)))) % 2 ^ 64
+
+-- the mask of the lanes in which two vectors differ
+abbrev pub other_mask : Width → List ℕ → List ℕ → ℕ
+other_mask w us vs = mask_l (map (top (hbits w)) (zip2 (λ a b. cond (not (eqb a b)) (2 ^ bits w - 1) 0) us vs)) % 2 ^ 64
 
 -- two tests that agree on each element have the same run
 pub prefix_len-agree : {X : Type 0} (p q : X → Bool) (d : X) (xs : List X) → ((k : ℕ) → k < length xs → p (get_or xs k d) ≡ q (get_or xs k d))
@@ -39,17 +67,17 @@ bits_equal w y x y_fits x_fits =
       | inr other ↦ ne_eqb _ _ other ∙ sym (false_from_ne_true _ (λ equal. other (ap (of_z w) ((Decides-int_eq y x).0 equal))))
     ]
 
--- the lanes before the first that equals x
-pub lanes_before_equal : (w : Width) (lanes : List ℤ) (n : ℕ) (x : ℤ) (count : ℕ) → length lanes ≡ n → n ≤ 64 → FitsSigned w x
+-- the lanes that equal x
+pub stops_at_equal : (w : Width) (lanes : List ℤ) (n : ℕ) (x : ℤ) → length lanes ≡ n → n ≤ 64 → FitsSigned w x
     → ((k : ℕ) → k < length lanes → FitsSigned w (get_or lanes k (pos 0)))
-    → (let mask = mask_l (map (top (hbits w)) (zip2 (λ a b. cond (eqb a b) (2 ^ bits w - 1) 0) (map (of_z w) lanes) (replicate n (of_z w x)))) % 2 ^ 64 in
-    count ≡ cond (eqb mask 0) n (count_trailing_zeros 64 mask))
-    → count ≡ position_or_len (λ y. int_eq y x) lanes
-lanes_before_equal w lanes n x count long few x_fits fits counted =
-    let bits = bitmask_splat w eqb (map (of_z w) lanes) n (of_z w x) (length-map lanes (of_z w) ∙ long) few ∙ ap mask_l (map-map (λ b. eqb b (of_z w x)) (of_z w) lanes) in
-    counted_lanes (λ y. eqb (of_z w y) (of_z w x)) lanes n _ count long few bits counted
-    ∙ prefix_len-agree (λ y. not (eqb (of_z w y) (of_z w x))) (λ y. not (int_eq y x)) (pos 0) lanes
+    → StopsAfter (position_or_len (λ y. int_eq y x) lanes) n (equal_mask w lanes n x)
+stops_at_equal w lanes n x long few x_fits fits =
+    let set = bitmask_splat w eqb (map (of_z w) lanes) n (of_z w x) (length-map lanes (of_z w) ∙ long) few ∙ ap mask_l (map-map (λ b. eqb b (of_z w x)) (of_z w) lanes) in
+    let run =
+    prefix_len-agree (λ y. not (eqb (of_z w y) (of_z w x))) (λ y. not (int_eq y x)) (pos 0) lanes
     (λ k inside. ap not (bits_equal w (get_or lanes k (pos 0)) x (fits k inside) x_fits))
+    in
+    subst (λ r. StopsAfter r n (equal_mask w lanes n x)) run (stops_before (λ y. eqb (of_z w y) (of_z w x)) lanes n (equal_mask w lanes n x) long few set)
 
 not_not : (b : Bool) → not (not b) ≡ b
 not_not true = refl
@@ -66,28 +94,28 @@ run_of_equal w (u ∷ us) (v ∷ vs) same us_fit vs_fit =
 
 -- the bits of a mask that says where two vectors differ
 pub differing : (w : Width) (us vs : List ℕ) (n : ℕ) → length us ≡ n → length vs ≡ n → n ≤ 64
-    → mask_l (map (top (hbits w)) (zip2 (λ a b. cond (not (eqb a b)) (2 ^ bits w - 1) 0) us vs)) % 2 ^ 64 ≡ mask_l (zip2 (λ a b. not (eqb a b)) us vs)
+    → other_mask w us vs ≡ mask_l (zip2 (λ a b. not (eqb a b)) us vs)
 differing w us vs n us_long vs_long few =
     let lanes = zip2 (λ a b. not (eqb a b)) us vs in
     ap (λ l. mask_l l % 2 ^ 64) (tops_compared w (λ a b. not (eqb a b)) us vs)
     ∙ mask_l-mod lanes 64 (omega (arith, length-zip2 (λ a b. not (eqb a b)) us vs (us_long ∙ sym vs_long), us_long, few))
 
--- the lanes before the first in which two vectors differ, whose bits are those of us and of vs
-pub lanes_before_other : (w : Width) (us vs : List ℤ) (us_bits vs_bits : List ℕ) (n count : ℕ) → us_bits ≡ map (of_z w) us → vs_bits ≡ map (of_z w) vs
+-- the lanes in which two vectors differ, whose bits are those of us and of vs
+pub stops_at_other : (w : Width) (us vs : List ℤ) (us_bits vs_bits : List ℕ) (n : ℕ) → us_bits ≡ map (of_z w) us → vs_bits ≡ map (of_z w) vs
     → length us ≡ n → length vs ≡ n → n ≤ 64
     → ((k : ℕ) → k < length us → FitsSigned w (get_or us k (pos 0))) → ((k : ℕ) → k < length vs → FitsSigned w (get_or vs k (pos 0)))
-    → (let mask = mask_l (map (top (hbits w)) (zip2 (λ a b. cond (not (eqb a b)) (2 ^ bits w - 1) 0) us_bits vs_bits)) % 2 ^ 64 in
-    count ≡ cond (eqb mask 0) n (count_trailing_zeros 64 mask))
-    → count ≡ common_prefix_len int_eq us vs
-lanes_before_other w us vs us_bits vs_bits n count us_are vs_are us_long vs_long few us_fit vs_fit counted =
+    → StopsAfter (common_prefix_len int_eq us vs) n (other_mask w us_bits vs_bits)
+stops_at_other w us vs us_bits vs_bits n us_are vs_are us_long vs_long few us_fit vs_fit =
     let left = ap length us_are ∙ length-map us (of_z w) ∙ us_long in
     let right = ap length vs_are ∙ length-map vs (of_z w) ∙ vs_long in
     let lanes = zip2 (λ a b. not (eqb a b)) us_bits vs_bits in
     let long = length-zip2 (λ a b. not (eqb a b)) us_bits vs_bits (left ∙ sym right) ∙ left in
     let set = differing w us_bits vs_bits n left right few ∙ ap mask_l (sym (map-id lanes)) in
-    counted_lanes (λ b. b) lanes n _ count long few set counted
-    ∙ ap₂ (λ us vs. position_or_len (λ b. b) (zip2 (λ a b. not (eqb a b)) us vs)) us_are vs_are
+    let run =
+    ap₂ (λ us vs. position_or_len (λ b. b) (zip2 (λ a b. not (eqb a b)) us vs)) us_are vs_are
     ∙ run_of_equal w us vs (us_long ∙ sym vs_long) us_fit vs_fit
+    in
+    subst (λ r. StopsAfter r n (other_mask w us_bits vs_bits)) run (stops_before (λ b. b) lanes n (other_mask w us_bits vs_bits) long few set)
 
 -- lists that are in common as far as they reach are one
 whole_front : (us vs : List ℤ) → length us ≡ length vs → common_prefix_len int_eq us vs ≡ length us → us ≡ vs

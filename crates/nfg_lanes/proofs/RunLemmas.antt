@@ -3,8 +3,9 @@ use Rattle.std.proofs.Common.{◌≡◌, ℕ, ◌+◌, ◌<◌, ◌≤◌, eqb, 
 use Rattle.std.proofs.lemmas.Bool.{eq-eqb, ne_eqb}
 use Rattle.std.proofs.lemmas.Simd.{length-chunk, chunk-drop}
 use Rattle.std.proofs.lemmas.List.Folds.{prefix_len-append}
-use Rattle.std.proofs.lemmas.List.Sums.{prefix_len-le-length}
+use Rattle.std.specs.Int.{trailing_zeros, w64}
 use Rattle.std.specs.List.{prefix_len}
+use Rattle.nfg_lanes.specs.Stops.{StopsAfter}
 use lib.Lanes.{chunk}
 
 -- the run goes on where it was left, at i
@@ -20,18 +21,18 @@ block_run p xs i n room =
     ∙ ap (λ m. cond (eqb (prefix_len p (chunk i n xs)) m) (m + prefix_len p (drop (i + n) xs)) (prefix_len p (chunk i n xs))) (length-chunk i n xs room)
 
 -- a run that ends in the block at i
-pub run_ends : {X : Type 0} (p : X → Bool) (xs : List X) (i n run : ℕ) → RunsTo p xs i → i + n ≤ length xs → run ≡ prefix_len p (chunk i n xs) → run < n
-    → i + run ≡ prefix_len p xs
-run_ends p xs i n run so_far room counted short =
-    let stops : eqb (prefix_len p (chunk i n xs)) n ≡ false = ne_eqb _ _ (λ full. absurd (omega (arith, counted, short, full))) in
+pub run_ends : {X : Type 0} (p : X → Bool) (xs : List X) (i n mask : ℕ) → RunsTo p xs i → i + n ≤ length xs → StopsAfter (prefix_len p (chunk i n xs)) n mask
+    → ¬ (mask ≡ 0) → i + trailing_zeros w64 mask ≡ prefix_len p xs
+run_ends p xs i n mask so_far room stop set =
+    let short : prefix_len p (chunk i n xs) < n = stop.inside set in
+    let stops : eqb (prefix_len p (chunk i n xs)) n ≡ false = ne_eqb _ _ (λ full. absurd (omega (arith, short, full))) in
     let here = block_run p xs i n room ∙ ap (λ b. cond b (n + prefix_len p (drop (i + n) xs)) (prefix_len p (chunk i n xs))) stops in
-    omega (arith, so_far.rest, here, counted)
+    omega (arith, so_far.rest, here, stop.first set)
 
 -- a run that fills the block at i
-pub run_fills : {X : Type 0} (p : X → Bool) (xs : List X) (i n run j : ℕ) → RunsTo p xs i → i + n ≤ length xs → run ≡ prefix_len p (chunk i n xs) → n ≤ run
-    → j ≡ i + n → RunsTo p xs j
-run_fills p xs i n run j so_far room counted full next =
-    let at_most = prefix_len-le-length p (chunk i n xs) in
-    let fills : eqb (prefix_len p (chunk i n xs)) n ≡ true = eq-eqb _ _ (omega (arith, counted, full, at_most, length-chunk i n xs room)) in
+pub run_fills : {X : Type 0} (p : X → Bool) (xs : List X) (i n mask j : ℕ) → RunsTo p xs i → i + n ≤ length xs → StopsAfter (prefix_len p (chunk i n xs)) n mask
+    → mask ≡ 0 → j ≡ i + n → RunsTo p xs j
+run_fills p xs i n mask j so_far room stop empty next =
+    let fills : eqb (prefix_len p (chunk i n xs)) n ≡ true = eq-eqb _ _ (stop.full empty) in
     let here = block_run p xs i n room ∙ ap (λ b. cond b (n + prefix_len p (drop (i + n) xs)) (prefix_len p (chunk i n xs))) fills in
     record { in_range = omega (arith, room, next); rest = so_far.rest ∙ ap (λ m. i + m) here ∙ omega arith ∙ ap (λ m. j + prefix_len p (drop m xs)) (sym next) }

@@ -3,17 +3,19 @@ ghost use Rattle.std.specs.Prelude.{◌≡◌, ◌+◌, ◌≤◌, length};
 ghost use Rattle.std.specs.List.{prefix_len};
 ghost use Rattle.std.specs.Char.{is_ascii};
 ghost use Rattle.std.specs.Simd.Lanes.{chunk};
+ghost use Rattle.nfg_lanes.specs.Stops.{StopsAfter};
 
-use crate::block::{LANES8, lanes_before};
+use crate::block::LANES8;
 use std::simd::prelude::*;
 
 #[inline(always)]
-fn ascii_in(bytes: &[u8], at: usize) -> usize
+fn others_in(bytes: &[u8], at: usize) -> u64
     requires { at + LANES8 ≤ length bytes.now }
-    ensures { result ≡ prefix_len is_ascii (chunk at LANES8 bytes.now) }
+    ensures { StopsAfter (prefix_len is_ascii (chunk at LANES8 bytes.now)) LANES8 result }
 {
-    let others = u8x32::from_slice(&bytes[at..]).simd_ge(u8x32::splat(128));
-    lanes_before(others.to_bitmask(), LANES8)
+    u8x32::from_slice(&bytes[at..])
+        .simd_ge(u8x32::splat(128))
+        .to_bitmask()
 }
 
 /// How many bytes at the front are ASCII, below 128.
@@ -22,9 +24,9 @@ pub fn ascii_run(bytes: &[u8]) -> usize
 {
     let blocks = bytes.len() / LANES8;
     for block in 0..blocks {
-        let run = ascii_in(bytes, block * LANES8);
-        if run < LANES8 {
-            return block * LANES8 + run;
+        let others = others_in(bytes, block * LANES8);
+        if others != 0 {
+            return block * LANES8 + others.trailing_zeros() as usize;
         }
     }
     let mut at = blocks * LANES8;

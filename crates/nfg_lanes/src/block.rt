@@ -1,24 +1,12 @@
 //! What the kernels share over one block of lanes.
-ghost use Rattle.std.specs.Prelude.{◌≡◌, ℕ, ◌+◌, ◌<◌, ◌≤◌, ◌==◌, if◌then◌else◌, pos, length, slice_index_or, FitsSigned};
-ghost use Rattle.std.specs.Int.{w8, w32, w64, trailing_zeros};
+ghost use Rattle.std.specs.Prelude.{◌≡◌, ℕ, ◌+◌, ◌<◌, ◌≤◌, pos, length, slice_index_or, FitsSigned};
+ghost use Rattle.std.specs.Int.{w8, w32};
 
 /// Lanes of a block of 8-bit elements.
 pub(crate) const LANES8: usize = 32;
 
 /// Lanes of a block of 32-bit elements.
 pub(crate) const LANES32: usize = 16;
-
-/// How many lanes come before the first that is set, or all of them.
-#[inline(always)]
-pub(crate) fn lanes_before(mask: u64, lanes: usize) -> usize
-    ensures { result ≡ (if mask == 0 then lanes else trailing_zeros w64 mask) }
-{
-    if mask == 0 {
-        lanes
-    } else {
-        mask.trailing_zeros() as usize
-    }
-}
 
 // A read tells that an element is in its type's range. The compiled code has no trace of these.
 #[inline(always)]

@@ -4,20 +4,21 @@ ghost use Rattle.std.specs.Ordering.{int_eq};
 ghost use Rattle.std.specs.List.{common_prefix_len};
 ghost use Rattle.std.specs.Simd.Lanes.{chunk};
 ghost use Rattle.nfg_lanes.specs.Lanes.{common_suffix_len};
+ghost use Rattle.nfg_lanes.specs.Stops.{StopsAfter};
 
-use crate::block::{LANES8, LANES32, lanes_before, read8, read32};
+use crate::block::{LANES8, LANES32, read8, read32};
 use std::simd::prelude::*;
 
 #[inline(always)]
-fn front8_in(a: &[i8], b: &[i8], at: usize) -> usize
+fn differ8_in(a: &[i8], b: &[i8], at: usize) -> u64
     requires left { at + LANES8 ≤ length a.now }
     requires right { at + LANES8 ≤ length b.now }
-    ensures { result ≡ common_prefix_len int_eq (chunk at LANES8 a.now) (chunk at LANES8 b.now) }
+    ensures { StopsAfter (common_prefix_len int_eq (chunk at LANES8 a.now) (chunk at LANES8 b.now)) LANES8 result }
 {
     read8(a, at, LANES8);
     read8(b, at, LANES8);
     let differ = i8x32::from_slice(&a[at..]).simd_ne(i8x32::from_slice(&b[at..]));
-    lanes_before(differ.to_bitmask(), LANES8)
+    differ.to_bitmask()
 }
 
 /// How many elements at the front the two have in common.
@@ -27,9 +28,9 @@ pub fn common_front8(a: &[i8], b: &[i8]) -> usize
     let len = a.len().min(b.len());
     let blocks = len / LANES8;
     for block in 0..blocks {
-        let run = front8_in(a, b, block * LANES8);
-        if run < LANES8 {
-            return block * LANES8 + run;
+        let differ = differ8_in(a, b, block * LANES8);
+        if differ != 0 {
+            return block * LANES8 + differ.trailing_zeros() as usize;
         }
     }
     let mut at = blocks * LANES8;
@@ -40,15 +41,15 @@ pub fn common_front8(a: &[i8], b: &[i8]) -> usize
 }
 
 #[inline(always)]
-fn front32_in(a: &[i32], b: &[i32], at: usize) -> usize
+fn differ32_in(a: &[i32], b: &[i32], at: usize) -> u64
     requires left { at + LANES32 ≤ length a.now }
     requires right { at + LANES32 ≤ length b.now }
-    ensures { result ≡ common_prefix_len int_eq (chunk at LANES32 a.now) (chunk at LANES32 b.now) }
+    ensures { StopsAfter (common_prefix_len int_eq (chunk at LANES32 a.now) (chunk at LANES32 b.now)) LANES32 result }
 {
     read32(a, at, LANES32);
     read32(b, at, LANES32);
     let differ = i32x16::from_slice(&a[at..]).simd_ne(i32x16::from_slice(&b[at..]));
-    lanes_before(differ.to_bitmask(), LANES32)
+    differ.to_bitmask()
 }
 
 /// How many elements at the front the two have in common.
@@ -58,9 +59,9 @@ pub fn common_front32(a: &[i32], b: &[i32]) -> usize
     let len = a.len().min(b.len());
     let blocks = len / LANES32;
     for block in 0..blocks {
-        let run = front32_in(a, b, block * LANES32);
-        if run < LANES32 {
-            return block * LANES32 + run;
+        let differ = differ32_in(a, b, block * LANES32);
+        if differ != 0 {
+            return block * LANES32 + differ.trailing_zeros() as usize;
         }
     }
     let mut at = blocks * LANES32;
@@ -71,16 +72,16 @@ pub fn common_front32(a: &[i32], b: &[i32]) -> usize
 }
 
 #[inline(always)]
-fn front_mixed_in(a: &[i8], b: &[i32], at: usize) -> usize
+fn differ_mixed_in(a: &[i8], b: &[i32], at: usize) -> u64
     requires left { at + LANES32 ≤ length a.now }
     requires right { at + LANES32 ≤ length b.now }
-    ensures { result ≡ common_prefix_len int_eq (chunk at LANES32 a.now) (chunk at LANES32 b.now) }
+    ensures { StopsAfter (common_prefix_len int_eq (chunk at LANES32 a.now) (chunk at LANES32 b.now)) LANES32 result }
 {
     read8(a, at, LANES32);
     read32(b, at, LANES32);
     let wide = i8x16::from_slice(&a[at..]).cast::<i32>();
     let differ = wide.simd_ne(i32x16::from_slice(&b[at..]));
-    lanes_before(differ.to_bitmask(), LANES32)
+    differ.to_bitmask()
 }
 
 /// How many elements at the front the two have in common, whose widths differ.
@@ -90,9 +91,9 @@ pub fn common_front_mixed(a: &[i8], b: &[i32]) -> usize
     let len = a.len().min(b.len());
     let blocks = len / LANES32;
     for block in 0..blocks {
-        let run = front_mixed_in(a, b, block * LANES32);
-        if run < LANES32 {
-            return block * LANES32 + run;
+        let differ = differ_mixed_in(a, b, block * LANES32);
+        if differ != 0 {
+            return block * LANES32 + differ.trailing_zeros() as usize;
         }
     }
     let mut at = blocks * LANES32;

@@ -2,15 +2,15 @@ use Rattle.std.proofs.Common.{int_eq, arith, ◌*◌, ◌+◌}
 use Rattle.nfg_lanes.proofs.FrontLemmas.{front_complete, front_ends, front_fills}
 use Rattle.nfg_lanes.proofs.common.common_front8.Goals as goal
 
-pub returns-then-run-lt-LANES8 : goal.returns-then-run-lt-LANES8
-returns-then-run-lt-LANES8 c =
+pub returns-then-differ-ne0 : goal.returns-then-differ-ne0
+returns-then-differ-ne0 c =
     let i = c.loop-block.block * 32 in
-    front_ends int_eq c.args.a.now c.args.b.now i 32 c.front8_in-run.result c.loop-block.invariant (omega arith) (omega arith) c.front8_in-run.ensures c.if-run-lt-LANES8.true
+    front_ends int_eq c.args.a.now c.args.b.now i 32 c.differ8_in-differ.result c.loop-block.invariant (omega arith) (omega arith) c.differ8_in-differ.ensures c.if-differ-ne0.true
 
 pub loop-block-preserved : goal.loop-block-preserved
 loop-block-preserved c =
     let i = c.loop-block.block * 32 in
-    front_fills int_eq c.args.a.now c.args.b.now i 32 c.front8_in-run.result _ c.loop-block.invariant (omega arith) (omega arith) c.front8_in-run.ensures c.if-run-lt-LANES8.false (omega arith)
+    front_fills int_eq c.args.a.now c.args.b.now i 32 _ c.loop-block.invariant (omega arith) (omega arith) (c.differ8_in-differ.ensures.full c.if-differ-ne0.false) (omega arith)
 
 pub returns-after-loop-at : goal.returns-after-loop-at
 returns-after-loop-at c =

@@ -1,8 +1,8 @@
 use Rattle.std.proofs.Common.{ℕ, ◌<◌, length, get_or, arith, refl, w8, w32, pos, FitsSigned}
 use Rattle.std.proofs.lemmas.Simd.{length-chunk}
-use Rattle.nfg_lanes.proofs.MaskLemmas.{in_block, lanes_before_other}
+use Rattle.nfg_lanes.proofs.MaskLemmas.{in_block, stops_at_other}
 use Rattle.nfg_lanes.proofs.WidthLemmas.{cast_bits, cast_fits, fits_wider}
-use Rattle.nfg_lanes.proofs.common.front_mixed_in.Goals as goal
+use Rattle.nfg_lanes.proofs.common.differ_mixed_in.Goals as goal
 use lib.Lanes.{chunk}
 
 pub overflow_cast-wide : goal.overflow_cast-wide
@@ -18,7 +18,6 @@ returns c =
     let i = c.args.at in
     let us = chunk i 16 a in
     let fits = in_block (FitsSigned w8) a i 16 (pos 0) c.requires.left c.read8.ensures in
-    lanes_before_other w32 us (chunk i 16 b) _ _ 16 _ (cast_bits w8 w32 us fits) refl (length-chunk i 16 a c.requires.left) (length-chunk i 16 b c.requires.right) (omega arith)
+    stops_at_other w32 us (chunk i 16 b) _ _ 16 (cast_bits w8 w32 us fits) refl (length-chunk i 16 a c.requires.left) (length-chunk i 16 b c.requires.right) (omega arith)
     (λ k inside. fits_wider (get_or us k (pos 0)) (fits k inside))
     (in_block (FitsSigned w32) b i 16 (pos 0) c.requires.right c.read32.ensures)
-    c.lanes_before.ensures
