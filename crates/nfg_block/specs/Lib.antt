@@ -1,0 +1,3 @@
+pub use Rattle.nfg_lanes.specs.Lanes
+pub mod Block
+pub mod Cells

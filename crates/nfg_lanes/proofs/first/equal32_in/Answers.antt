@@ -1,0 +1,11 @@
+use Rattle.std.proofs.Common.{arith, w32, pos, FitsSigned}
+use Rattle.std.proofs.lemmas.Simd.{length-chunk}
+use Rattle.nfg_lanes.proofs.MaskLemmas.{in_block, stops_at_equal}
+use Rattle.nfg_lanes.proofs.first.equal32_in.Goals as goal
+use lib.Lanes.{chunk}
+
+pub returns : goal.returns
+returns c =
+    let a = c.args.a.now in
+    let fits = in_block (FitsSigned w32) a c.args.at 16 (pos 0) c.requires c.read32.ensures in
+    stops_at_equal w32 (chunk c.args.at 16 a) 16 c.args.x (length-chunk c.args.at 16 a c.requires) (omega arith) c.ranges.x fits
