@@ -1,0 +1,13 @@
+pub mod Examples
+pub mod MarkLemmas
+pub mod PrefixLemmas
+pub mod ReadingLemmas
+pub mod ReadsLemmas
+pub mod StateLemmas
+pub mod Stepwise
+pub mod StreamLemmas
+pub mod Utf16Laws
+pub mod Utf16Tails
+pub mod Utf8Laws
+pub mod Utf8Tails
+pub mod Utf8Text

@@ -1,0 +1,19 @@
+//! Bytes to code points, in pieces: UTF-8, UTF-16 and Latin-1.
+#![tactic(auto)]
+
+mod encoding;
+mod latin1;
+mod mark;
+mod part;
+mod reach;
+mod reading;
+mod state;
+mod stream;
+mod tail;
+#[cfg(test)]
+mod tests;
+mod utf16;
+mod utf8;
+
+pub use encoding::{DecodeError, Encoding};
+pub use stream::ByteStream;
