@@ -1,0 +1,3 @@
+pub mod BreaksLemmas
+pub mod CutLemmas
+pub mod TextLemmas

@@ -1,0 +1,3 @@
+pub mod Breaks
+pub mod Graphemes
+pub mod Text

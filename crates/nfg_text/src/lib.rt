@@ -1,0 +1,12 @@
+//! Text, its normal form, its grapheme clusters, and the laws that hold of them.
+#![tactic(auto)]
+
+pub use breaks::{Kind, Memory, cluster_ends};
+pub use list::{ByteList, CodeList, EndList};
+pub use normal::{is_text, nfc_of, starts_safely};
+
+mod breaks;
+mod list;
+mod normal;
+#[cfg(test)]
+mod tests;
