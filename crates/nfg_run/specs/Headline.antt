@@ -68,36 +68,30 @@ abbrev pub failed_path : Option (List ℕ) → Option (List ℕ) → List FileRe
 failed_path None script reads = None
 failed_path (Some path) script reads = failed_read path script reads
 
--- What a run has read. At most one read has failed, and it has its cause in the files.
-pub record Reading (words : List (List ℕ)) (before after : FilesState) : Type 0 where
+-- The answer is that to what was read, of which at most one failed, with its cause in the files.
+pub record IsAnswered (words : List (List ℕ)) (before after : FilesState) (given : Answer) : Type 0 where
   -- the script's bytes, or none where they can't be read
   pub script : Option (List ℕ)
   -- what was read for its loads
   pub reads : List FileRead
   pub are_read : AreRead before.contents (script_path words) script reads
   pub read_fault_cause : IfSome (failed_path (script_path words) script reads) (HasFailedAt before after)
+  pub answer_is : given ≡ answer words script reads
 
 -- the status is the answer's, and the bytes taken have grown by just its bytes
-pub record IsDelivered (answer : Answer) (status : Status) (before after : SinkState) : Type 0 where
-  pub same_status : status ≡ answer.status
-  pub written : Grew before.taken after.taken answer.bytes
+pub record IsDelivered (given : Answer) (status : Status) (before after : SinkState) : Type 0 where
+  pub same_status : status ≡ given.status
+  pub written : Grew before.taken after.taken given.bytes
 
--- a write failed, and the bytes taken have grown by a proper prefix of the answer's
-pub record IsCutOff (answer : Answer) (before after : SinkState) : Type 0 where
-  pub rose : Rose before.faults after.faults
+-- the bytes taken have grown by a proper prefix of these
+pub record GrewInPart (before after : Option (List ℕ)) (bytes : List ℕ) : Type 0 where
   pub sent : List ℕ
   pub unsent : List ℕ
-  pub whole : sent ++ unsent ≡ answer.bytes
+  pub whole : sent ++ unsent ≡ bytes
   pub proper : 0 < length unsent
-  pub written : Grew before.taken after.taken sent
+  pub written : Grew before after sent
 
-module _ (words : List (List ℕ)) (files_before files_after : FilesState) (out_before out_after : SinkState) where
-  -- the status and the bytes written are those of the answer to what was read
-  abbrev pub AnswersExactly : Status → Type 0
-  AnswersExactly status = (read : Reading words files_before files_after)
-      × IsDelivered (answer words read.script read.reads) status out_before out_after
-
-  -- of the answer to what was read a proper prefix was written
-  abbrev pub AnswersInPart : Type 0
-  AnswersInPart = (read : Reading words files_before files_after)
-      × IsCutOff (answer words read.script read.reads) out_before out_after
+-- a write failed: the count rose, and a proper prefix of the answer's bytes was taken
+pub record IsCutOff (given : Answer) (before after : SinkState) : Type 0 where
+  pub rose : Rose before.faults after.faults
+  pub part : GrewInPart before.taken after.taken given.bytes

@@ -1,5 +1,5 @@
 -- The script language (this project's own). A script is three lines: `load N utf8 PATH`, `len N`, `show N`.
-use Rattle.std.specs.Prelude.{ℕ, Bool, not, ◌&&◌, ◌||◌, ◌==◌, if◌then◌else◌, List, [], ◌∷◌, length, Option, Some, None, codes, bytes_eq, nat_lt, nat_le}
+use Rattle.std.specs.Prelude.{ℕ, Bool, false, not, ◌&&◌, ◌||◌, ◌==◌, if◌then◌else◌, List, [], ◌∷◌, length, Option, Some, None, codes, bytes_eq, nat_lt, nat_le}
 use Rattle.std.specs.List.{list_all, list_any, slice_split}
 use Rattle.std.specs.Str.{is_utf8}
 use Rattle.nfg_run.specs.CommandLine.{line_feed}
@@ -46,19 +46,23 @@ load_len_show name path =
     ∷ record { line = 2; command = Len name }
     ∷ record { line = 3; command = Show name } ∷ []
 
--- these commands, where the words of three lines spell them with one name
+-- the words of a line are the command and the name
+abbrev pub is_command_on : (command name : List ℕ) → List (List ℕ) → Bool
+is_command_on command name (word ∷ operand ∷ []) = bytes_eq word command && bytes_eq operand name
+is_command_on command name words = false
+
+-- the three commands, where the words of three lines spell them with one name
 abbrev pub three_commands : (first second third : List (List ℕ)) → Option (List NumberedCommand)
-three_commands (load ∷ name ∷ encoding ∷ path ∷ []) (len ∷ measured ∷ []) (show ∷ shown ∷ []) =
-    if bytes_eq load (codes "load") && is_name name && bytes_eq encoding (codes "utf8") && is_path path
-    && bytes_eq len (codes "len") && bytes_eq measured name
-    && bytes_eq show (codes "show") && bytes_eq shown name
+three_commands (word ∷ name ∷ encoding ∷ path ∷ []) second third =
+    if bytes_eq word (codes "load") && is_name name && bytes_eq encoding (codes "utf8") && is_path path
+        && is_command_on (codes "len") name second && is_command_on (codes "show") name third
     then Some (load_len_show name path) else None
 three_commands first second third = None
 
 -- three lines, and nothing after the last line feed
 abbrev pub commands_of : List (List ℕ) → Option (List NumberedCommand)
-commands_of (first ∷ second ∷ third ∷ [] ∷ []) =
-    three_commands (words_of first) (words_of second) (words_of third)
+commands_of (first ∷ second ∷ third ∷ rest ∷ []) =
+    if length rest == 0 then three_commands (words_of first) (words_of second) (words_of third) else None
 commands_of lines = None
 
 -- the commands of a script, where it is accepted
