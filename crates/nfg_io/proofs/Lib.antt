@@ -1,2 +1,4 @@
 pub mod SinkLemmas
+pub mod CallsLemmas
+pub mod EntriesLemmas
 pub mod OpenPathMade

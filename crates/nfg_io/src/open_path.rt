@@ -6,6 +6,7 @@ ghost use base.Fml.{ftrue};
 use std::marker::{Model, PhantomData};
 
 /// The open path, if there is one. It takes no bytes, and nothing that runs can read it.
+#[derive(Drop)]
 pub struct OpenPath {
     marker: PhantomData<()>,
     pub ghost path: { Option (List ℕ) } by { coded_option (coded_list coded_ℕ) },
@@ -31,11 +32,5 @@ impl OpenPath {
         OpenPath {
             marker: PhantomData,
         }
-    }
-}
-
-impl Drop for OpenPath {
-    fn drop(self) {
-        let OpenPath { marker: _ } = self;
     }
 }
