@@ -1,0 +1,9 @@
+pub mod Known
+pub mod KnownLaws
+pub mod OwnTexts
+pub mod OwnTextsLaws
+pub mod Refusal
+pub mod Represents
+pub mod RepresentsLaws
+pub mod Seen
+pub mod SeenLaws

@@ -1,0 +1,15 @@
+-- Which clusters a list of numbers stands for (this project's own; grapheme clusters are those of UAX #29).
+use Rattle.std.specs.Prelude.{◌≡◌, ℕ, List, [], ◌∷◌, Option, Some, None, ℤ, pos, negsuc, if◌then◌else◌}
+use Rattle.std.specs.List.{AllZip}
+use lib.Utf8.{scalar as is_scalar}
+use Rattle.nfg_syn.specs.Known.{Texts}
+
+-- A scalar value spells itself, a negative number the text that it is known to stand for, and no
+-- other number spells anything.
+abbrev pub spelling : Texts → ℤ → Option (List ℕ)
+spelling known (pos c) = if is_scalar c then Some (c ∷ []) else None
+spelling known (negsuc m) = known m
+
+-- each number, in order, spells the cluster at its place, and there are as many of both
+abbrev pub Represents : Texts → List ℤ → List (List ℕ) → Type 0
+Represents known numbers clusters = AllZip (λ n c. spelling known n ≡ Some c) numbers clusters

@@ -1,0 +1,15 @@
+//! Synthetics: negative numbers that stand for grapheme clusters of several code points.
+//!
+//! A grapheme is a number. A cluster of one code point is that code point; a longer one is interned
+//! in a table, which gives it a negative number, the same one each time. A pass is what one caller
+//! knows of one table.
+#![tactic(auto)]
+
+mod own_table;
+mod shared;
+mod synthetics;
+mod text_list;
+
+pub use own_table::{OwnPass, OwnTable};
+pub use shared::{Refused, Shared};
+pub use synthetics::{InternError, Synthetics};
