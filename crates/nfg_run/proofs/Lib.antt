@@ -1,2 +1,6 @@
 mod Examples
+pub mod Answered
+pub mod Fronts
+pub mod ReadLemmas
 pub mod ScriptLemmas
+pub mod Sending
