@@ -11,7 +11,7 @@ use Rattle.nfg_run.specs.declared.status.Status.TheVariants.{Done, Refused, Bad,
 use Rattle.nfg_run.specs.CommandLine.{script_path, usage_text, line_feed}
 use Rattle.nfg_run.specs.Script.{parse, Load, Len, Show, NumberedCommand}
 use Rattle.nfg_run.specs.declared.output.Output.{Output}
-use Rattle.nfg_run.specs.Evaluation.{define, evaluate, evaluate_from, shown}
+use Rattle.nfg_run.specs.Evaluation.{State, define, kept, evaluate, evaluate_from, shown}
 use Rattle.nfg_run.specs.Answer.{answer, answer_output}
 use Rattle.nfg_run.specs.Headline.{failed_path}
 
@@ -110,9 +110,12 @@ shows_nothing = refl
 abbrev file : List ℕ → List FileRead
 file bytes = Bytes bytes ∷ []
 
--- what the three lines give where the load gives these clusters
+abbrev empty_state : State
+empty_state = record { values = []; used = []; reads = []; output = [] }
+
+-- what the three lines give where the file has these clusters
 abbrev of_clusters : ℕ → List (List ℕ) → Output
-of_clusters places clusters = elim (define places (record { values = []; used = []; reads = []; output = [] }) (codes "a") clusters) [
+of_clusters places clusters = elim (define empty_state (codes "a") (kept places [] clusters)) [
   | Ok next ↦ evaluate_from places next (record { line = 2; command = Len (codes "a") } ∷ record { line = 3; command = Show (codes "a") } ∷ [])
   | Err cause ↦ record { bytes = []; refused = Some (record { line = 1; cause = cause }) }
 ]

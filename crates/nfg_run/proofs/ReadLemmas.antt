@@ -13,12 +13,12 @@ grown-front : (file bytes into rest grown : List ℕ) (n : ℕ)
 grown-front file bytes into rest grown n known inside reads within e =
     let front : take n (into ++ rest) ≡ take n into = rw take-append-le refl in
     let whole : grown ≡ take (length bytes + n) file =
-        e ∙ ap (λ v. bytes ++ v) (front ∙ reads.bytes)
-        ∙ ap (λ v. v ++ take n (drop (length bytes) file)) known
-        ∙ sym (take-more file (length bytes) n inside) in
+    e ∙ ap (λ v. bytes ++ v) (front ∙ reads.bytes)
+    ∙ ap (λ v. v ++ take n (drop (length bytes) file)) known
+    ∙ sym (take-more file (length bytes) n inside) in
     let fits : length bytes + n ≤ length file = omega (arith, reads.within, length-drop (length bytes) file) in
     let count : length grown ≡ length bytes + n =
-        ap length whole ∙ length-take-le (length bytes + n) file fits in
+    ap length whole ∙ length-take-le (length bytes + n) file fits in
     rw count whole
 
 -- a read goes on with a front of the file, where the files are told

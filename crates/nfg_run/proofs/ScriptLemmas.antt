@@ -21,7 +21,7 @@ unfolding parse
 parse-no_text bytes short no_text =
     let e : nat_le (length bytes) script_limit ≡ true = grind (arith, nat_tests) in
     let f : is_utf8 bytes ≡ false =
-        false_from_ne_true (is_utf8 bytes) (λ yes. no_text (IsUtf8-from_is_utf8 bytes yes)) in
+    false_from_ne_true (is_utf8 bytes) (λ yes. no_text (IsUtf8-from_is_utf8 bytes yes)) in
     rw (e, f) refl
 
 -- of others the lines decide

@@ -32,21 +32,33 @@ value_of (value ∷ values) name = if bytes_eq value.0 name then value.1 else va
 abbrev pub takes_place : List ℕ → Bool
 takes_place cluster = nat_lt 1 (length cluster) && not (bytes_eq cluster (13 ∷ 10 ∷ []))
 
--- the name gets the clusters, unless one of them is too long or they take more places than there are
-abbrev pub define : ℕ → State → List ℕ → List (List ℕ) → Result State Cause
-define places state name clusters =
-    let used = state.used ++ filter takes_place clusters in
-    if list_any is_too_long clusters || nat_lt places (distinct_count bytes_eq used) then Err NotYet
-    else Ok (record state { values = (name, clusters) ∷ state.values; used = used })
+-- the clusters, unless one of them is too long or, with those used before, they take more places than there are
+abbrev pub kept : ℕ → List (List ℕ) → List (List ℕ) → Result (List (List ℕ)) Cause
+kept places used clusters =
+    if list_any is_too_long clusters
+    || nat_lt places (distinct_count bytes_eq (used ++ filter takes_place clusters))
+    then Err NotYet else Ok clusters
 
--- a load gives the clusters of its file's text in NFC
+-- what a load gives: the clusters of its file's text in NFC
+abbrev pub loaded : ℕ → List (List ℕ) → FileRead → Result (List (List ℕ)) Cause
+loaded places used Failed = Err CannotRead
+loaded places used TooLong = Err NotYet
+loaded places used (Bytes bytes) =
+    if is_utf8 bytes then kept places used (graphemes_of (chars bytes)) else Err NotYet
+
+-- the name gets the clusters
+abbrev pub define : State → List ℕ → Result (List (List ℕ)) Cause → Result State Cause
+define state name (Err cause) = Err cause
+define state name (Ok clusters) = Ok (record state {
+  values = (name, clusters) ∷ state.values;
+  used = state.used ++ filter takes_place clusters;
+})
+
+-- a load takes the next of what was read
 abbrev pub load : ℕ → State → List ℕ → List FileRead → Result State Cause
 load places state name [] = Err CannotRead
-load places state name (Failed ∷ reads) = Err CannotRead
-load places state name (TooLong ∷ reads) = Err NotYet
-load places state name (Bytes bytes ∷ reads) =
-    if is_utf8 bytes then define places (record state { reads = reads }) name (graphemes_of (chars bytes))
-    else Err NotYet
+load places state name (read ∷ reads) =
+    define (record state { reads = reads }) name (loaded places state.used read)
 
 -- the code points in upper-case hexadecimal, `+` between two
 abbrev pub shown_cluster : List ℕ → List ℕ

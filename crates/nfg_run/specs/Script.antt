@@ -55,7 +55,7 @@ is_command_on command name words = false
 abbrev pub three_commands : (first second third : List (List ℕ)) → Option (List NumberedCommand)
 three_commands (word ∷ name ∷ encoding ∷ path ∷ []) second third =
     if bytes_eq word (codes "load") && is_name name && bytes_eq encoding (codes "utf8") && is_path path
-        && is_command_on (codes "len") name second && is_command_on (codes "show") name third
+    && is_command_on (codes "len") name second && is_command_on (codes "show") name third
     then Some (load_len_show name path) else None
 three_commands first second third = None
 

@@ -9,7 +9,7 @@ use Rattle.nfg_run.proofs.answer.answer_path.Goals as goal
 pub returns-in-None : goal.returns-in-None
 returns-in-None g c =
     let refused : parse c.in-Ok.bytes ≡ None =
-        ap parse (sym c.as_slice.ensures) ∙ (sym c.in_ok-parse.ensures ∙ c.in-None.is) in
+    ap parse (sym c.as_slice.ensures) ∙ (sym c.in_ok-parse.ensures ∙ c.in-None.is) in
     IfOk-map (λ given. given ≡ answer_script None []) _ c.text_answer-in-None.result
     (λ given is words named. IsAnswered-refused words c.args.path.now c.in-Ok.bytes _ _ given named c.in-Ok.ensures.bytes refused is)
     c.text_answer-in-None.ensures
@@ -17,15 +17,15 @@ returns-in-None g c =
 pub returns : goal.returns
 returns g c =
     let accepted : parse c.in-Ok.bytes ≡ Some c.in-Some.script =
-        ap parse (sym c.as_slice.ensures) ∙ (sym c.in_ok-parse.ensures ∙ c.in-Some.is) in
+    ap parse (sym c.as_slice.ensures) ∙ (sym c.in_ok-parse.ensures ∙ c.in-Some.is) in
     let reads = c.in_ok-reads-in-Some.reads.items in
     let loads : AreLoadsRead (g.F.Files.state c.args.files.now).contents (load_paths c.in-Some.script) reads =
-        rw (c.in-Ok.ensures.contents) at c.in_ok-reads-in-Some.ensures.read in
+    rw (c.in-Ok.ensures.contents) at c.in_ok-reads-in-Some.ensures.read in
     let cause = HasFailedAt-earlier (g.F.Files.state c.args.files.now) _ _ _ c.in-Ok.ensures.never_falls
-        c.in_ok-reads-in-Some.ensures.failed in
+    c.in_ok-reads-in-Some.ensures.failed in
     let output : c.in_ok-output-in-Some.output ≡ evaluate c.in-Some.script reads default_places =
-        c.in_ok-output-in-Some.ensures ∙ ap (λ v. evaluate c.in-Some.script v default_places) c.deref.ensures.value in
+    c.in_ok-output-in-Some.ensures ∙ ap (λ v. evaluate c.in-Some.script v default_places) c.deref.ensures.value in
     IfOk-map (λ given. given ≡ answer_output c.in_ok-output-in-Some.output.bytes c.in_ok-output-in-Some.output.refused) _ c.answer_to_output.result
     (λ given is words named. IsAnswered-accepted words c.args.path.now c.in-Ok.bytes _ _ given c.in-Some.script reads
-        named c.in-Ok.ensures.bytes accepted loads cause (is ∙ ap (λ o. answer_output o.bytes o.refused) output))
+    named c.in-Ok.ensures.bytes accepted loads cause (is ∙ ap (λ o. answer_output o.bytes o.refused) output))
     c.answer_to_output.ensures

@@ -13,8 +13,8 @@ returns-in-Err c = sym (parse-no_text c.args.bytes.now (omega arith) c.in-Err.en
 pub returns-in_ok-lines-in-Ok : goal.returns-in_ok-lines-in-Ok
 returns-in_ok-lines-in-Ok c =
     let read : commands_of (map (λ x. x.now) c.as_slice.result.now) ≡ parse c.args.bytes.now =
-        ap (λ v. commands_of (map (λ x. x.now) v)) c.as_slice.ensures.value
-        ∙ ap commands_of c.in_ok-lines-in-Ok.ensures
-        ∙ ap (λ text. commands_of (slice_split (λ b. b == 10) text)) c.in-Ok.ensures.cases.0
-        ∙ sym (parse-text c.args.bytes.now (omega arith) c.in-Ok.ensures.cases.1) in
+    ap (λ v. commands_of (map (λ x. x.now) v)) c.as_slice.ensures.value
+    ∙ ap commands_of c.in_ok-lines-in-Ok.ensures
+    ∙ ap (λ text. commands_of (slice_split (λ b. b == 10) text)) c.in-Ok.ensures.cases.0
+    ∙ sym (parse-text c.args.bytes.now (omega arith) c.in-Ok.ensures.cases.1) in
     subst (λ v. IfOk c.parse_lines.result (λ script. script ≡ v)) read c.parse_lines.ensures
