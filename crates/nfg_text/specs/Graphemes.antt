@@ -1,5 +1,5 @@
 -- Graphemes: the extended grapheme clusters (UAX #29) of a text in Normalization Form C (UAX #15).
-use Rattle.std.specs.Prelude.{◌≡◌, ℕ, ◌+◌, ◌<◌, ◌≤◌, suc, Bool, true, false, not, ◌&&◌, ◌||◌, ◌==◌, nat_lt, List, [], ◌∷◌, ◌++◌, length, take, drop, ◌⊎◌, if◌then◌else◌}
+use Rattle.std.specs.Prelude.{◌≡◌, ℕ, ◌+◌, ◌≤◌, suc, Bool, true, false, not, ◌&&◌, ◌||◌, ◌==◌, nat_lt, List, [], ◌∷◌, ◌++◌, length, take, drop, ◌⊎◌, if◌then◌else◌}
 use Rattle.ucd_normal.specs.CanonicalCombiningClass.{canonical_combining_class}
 use Rattle.unicode_normalization.specs.Forms.{nfc, nfd, Nfc}
 use Rattle.unicode_normalization.specs.QuickCheck.{QuickCheck, Yes, quick_check}

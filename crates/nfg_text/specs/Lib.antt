@@ -1,3 +1,8 @@
 pub mod Breaks
+pub mod Facts
 pub mod Graphemes
+pub mod Laws
+pub mod Operations
+pub mod Plain
+pub mod Splice
 pub mod Text

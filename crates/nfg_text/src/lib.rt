@@ -3,9 +3,10 @@
 
 pub use breaks::{Kind, Memory, cluster_ends};
 pub use list::{ByteList, CodeList, EndList};
-pub use normal::{is_text, nfc_of, starts_safely};
+pub use normal::{is_plain, is_text, nfc_of, starts_safely};
 
 mod breaks;
+pub mod laws;
 mod list;
 mod normal;
 #[cfg(test)]

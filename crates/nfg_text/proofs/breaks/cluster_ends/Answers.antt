@@ -1,10 +1,10 @@
 use Rattle.std.proofs.Common.{true, ap, sym, subst, ◌+◌, ◌++◌, ◌∙◌, reverse, take, drop, get_or, arith}
 use Rattle.unicode_segmentation.specs.Grapheme.{is_grapheme_break}
-use Rattle.nfg_text.proofs.BreaksLemmas.{rule-last}
-use Rattle.nfg_text.proofs.CutLemmas.{places, places-start, places-step, places-finish, reverse-take-more, length-reverse-take}
+use Rattle.nfg_text.proofs.Memories.{rule-last}
+use Rattle.nfg_text.proofs.Places.{places, places-start, places-step, places-finish, reverse-take-more, length-reverse-take}
 use Rattle.nfg_text.specs.Breaks.{IsKindOf, Remembers}
 use Rattle.nfg_text.specs.Graphemes.{cluster_ends}
-use Rattle.nfg_text.proofs.TextLemmas.{scalar_at}
+use Rattle.nfg_text.proofs.Scalars.{scalar_at}
 use Rattle.nfg_text.proofs.breaks.cluster_ends.Goals as goal
 
 pub loop-i-init : goal.loop-i-init

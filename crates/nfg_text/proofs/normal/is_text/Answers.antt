@@ -1,5 +1,5 @@
 use Rattle.std.proofs.Common.{not, ap, ◌∙◌, get_or}
-use Rattle.nfg_text.proofs.TextLemmas.{scalar_at, scalars-push, scalar_from_some, not_scalar_from_none}
+use Rattle.nfg_text.proofs.Scalars.{scalar_at, scalars-push, scalar_from_some, not_scalar_from_none}
 use Rattle.nfg_text.proofs.normal.is_text.Goals as goal
 
 pub returns-then-is_none : goal.returns-then-is_none

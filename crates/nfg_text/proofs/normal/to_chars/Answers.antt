@@ -1,4 +1,4 @@
-use Rattle.nfg_text.proofs.TextLemmas.{scalar_at}
+use Rattle.nfg_text.proofs.Scalars.{scalar_at}
 use Rattle.nfg_text.proofs.normal.to_chars.Goals as goal
 
 pub to_char-requires : goal.to_char-requires

@@ -1,5 +1,5 @@
 use Rattle.std.proofs.Common.{◌∙◌}
-use Rattle.nfg_text.proofs.BreaksLemmas.{breaks_by_memory-rule}
+use Rattle.nfg_text.proofs.Memories.{breaks_by_memory-rule}
 use Rattle.nfg_text.proofs.breaks.Memory.breaks_before.Goals as goal
 
 pub returns : goal.returns

@@ -1,5 +1,5 @@
 use Rattle.std.proofs.Common.{◌∙◌, ap, not, ◌&&◌, ◌||◌}
-use Rattle.nfg_text.proofs.BreaksLemmas.{linker-then, pictograph-then, joiner-then, flag-then}
+use Rattle.nfg_text.proofs.Memories.{linker-then, pictograph-then, joiner-then, flag-then}
 use Rattle.nfg_text.proofs.breaks.Memory.then.Goals as goal
 
 pub returns : goal.returns

@@ -1,0 +1,5 @@
+use Rattle.std.proofs.Common.{◌≡◌, ◌++◌, take}
+use Rattle.nfg_text.proofs.normal.extend_codes.Given as goal
+
+abbrev pub invariant-loop-c : goal.invariant-loop-c
+invariant-loop-c l = l.codes.items ≡ l.fn.codes.items ++ take l.c-index l.chars
