@@ -1,10 +1,10 @@
 -- The calls of an object in memory, some of which are made to fail (this project's own).
-use Rattle.std.specs.Prelude.{ℕ, ◌+◌, ◌^◌, min, Bool, true, false, if◌then◌else◌, refl}
+use Rattle.std.specs.Prelude.{ℕ, ◌+◌, ◌^◌, min, Bool, if◌then◌else◌}
 use Rattle.std.specs.Ordering.{nat_cmp}
-use Rattle.std.specs.Coded.{Coded, code_by, coded×, coded_ℕ}
 use Rattle.std.specs.FinSet as set
 use Rattle.nfg_io.specs.Causes.{one_more}
 
+-- what a contract sees of the calls
 pub record Calls : Type 0 where
   -- the numbers of the calls that fail
   pub failing : set.FinSet nat_cmp
@@ -12,14 +12,6 @@ pub record Calls : Type 0 where
   pub made : ℕ
   -- how many calls have failed; it stands still at 2 ^ 64 - 1
   pub faults : ℕ
-
--- the calls are stored as the tuple of their fields
-abbrev pub calls_code : Coded Calls
-calls_code =
-    code_by (set.FinSet nat_cmp × (ℕ × ℕ)) (coded× (set.code coded_ℕ) (coded× coded_ℕ coded_ℕ))
-    (λ calls. (calls.failing, (calls.made, calls.faults)))
-    (λ fields. record { failing = fields.0; made = fields.1.0; faults = fields.1.1 })
-    (λ _. refl)
 
 -- none fails, and none was made
 abbrev pub no_calls : Calls

@@ -3,6 +3,7 @@ pub mod Files
 pub mod Sink
 pub mod Calls
 pub mod Memory
+pub mod Real
 pub mod Entries
 pub mod Room
-pub mod Real
+pub mod Codes

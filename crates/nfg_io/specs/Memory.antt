@@ -1,16 +1,16 @@
 -- Files and output in memory (this project's own).
-use Rattle.std.specs.Prelude.{ℕ, ◌-◌, min, nat_lt, not, ◌&&◌, Bool, List, length, Option, Some, None, unwrap_or, [], refl}
+use Rattle.std.specs.Prelude.{ℕ, ◌-◌, nat_lt, not, ◌&&◌, Bool, List, length, Option, Some, unwrap_or, []}
 use Rattle.std.specs.Ordering.{nat_cmp}
 use Rattle.std.specs.Cmp.Lexicographic.{slice_cmp}
-use Rattle.std.specs.Coded.{Coded, code_by, coded×, coded_ℕ, coded_bool, coded_list, coded_option}
 use Rattle.std.specs.FinMap as map
 use Rattle.nfg_io.specs.Files.{opened_bytes}
-use Rattle.nfg_io.specs.Calls.{Calls, calls_code, fails_next}
+use Rattle.nfg_io.specs.Calls.{Calls, fails_next}
 
 -- bytes by paths
 abbrev pub Paths : Type 0
 Paths = map.FinMap (slice_cmp nat_cmp) (List ℕ)
 
+-- what a contract sees of files in memory
 pub record FilesInMemory : Type 0 where
   -- the bytes of each path that is there
   pub files : Paths
@@ -23,14 +23,6 @@ pub record FilesInMemory : Type 0 where
   -- the calls of `open` and `read`
   pub calls : Calls
 
-abbrev pub files_code : Coded FilesInMemory
-files_code =
-    code_by (Paths × (ℕ × (Option (List ℕ) × (ℕ × (Bool × Calls)))))
-    (coded× (map.code (coded_list coded_ℕ) (coded_list coded_ℕ)) (coded× coded_ℕ (coded× (coded_option (coded_list coded_ℕ)) (coded× coded_ℕ (coded× coded_bool calls_code)))))
-    (λ m. (m.files, (m.step, (m.open_path, (m.position, (m.broken, m.calls))))))
-    (λ f. record { files = f.0; step = f.1.0; open_path = f.1.1.0; position = f.1.1.1.0; broken = f.1.1.1.1.0; calls = f.1.1.1.1.1 })
-    (λ _. refl)
-
 -- an `open` goes well: the path is there, and the call isn't one of those that fail
 abbrev pub opens : FilesInMemory → List ℕ → Bool
 opens m path = not (fails_next m.calls) && map.contains_key m.files path
@@ -39,6 +31,7 @@ opens m path = not (fails_next m.calls) && map.contains_key m.files path
 abbrev pub bytes_left : FilesInMemory → ℕ
 bytes_left m = length (unwrap_or (opened_bytes (Some (map.get m.files)) m.open_path) []) - m.position
 
+-- what a contract sees of output in memory
 pub record SinkInMemory : Type 0 where
   -- the bytes taken so far
   pub taken : List ℕ
@@ -48,14 +41,6 @@ pub record SinkInMemory : Type 0 where
   pub room : ℕ
   -- the calls of `write`
   pub calls : Calls
-
-abbrev pub sink_code : Coded SinkInMemory
-sink_code =
-    code_by (List ℕ × (ℕ × (ℕ × Calls)))
-    (coded× (coded_list coded_ℕ) (coded× coded_ℕ (coded× coded_ℕ calls_code)))
-    (λ m. (m.taken, (m.step, (m.room, m.calls))))
-    (λ f. record { taken = f.0; step = f.1.0; room = f.1.1.0; calls = f.1.1.1 })
-    (λ _. refl)
 
 -- how many bytes the sink still has room for
 abbrev pub room_left : SinkInMemory → ℕ

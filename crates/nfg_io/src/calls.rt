@@ -20,7 +20,8 @@ impl Model for Calls {
     ghost use Rattle.std.specs.Prelude.{◌≡◌, ◌^◌, false, unwrap_or};
     ghost use Rattle.std.specs.Ordering.{nat_cmp};
     ghost use Rattle.std.specs.FinSet.{from_list, contains};
-    ghost use Rattle.nfg_io.specs.Calls.{Calls as CallsMade, calls_code};
+    ghost use Rattle.nfg_io.specs.Calls.{Calls as CallsMade};
+    ghost use Rattle.nfg_io.specs.Codes.{calls_code};
 
     ghost Value = { CallsMade };
 

@@ -12,7 +12,8 @@ pub struct Failed;
 pub trait Files {
     ghost state: { Self → FilesState };
 
-    /// Makes the path the open one, at position 0, whether or not it can be read. A path that isn't there is a fault.
+    /// Makes the path the open one, at position 0, whether or not it can be read. A path that
+    /// isn't there is a fault.
     fn open(&mut self, path: &str) -> Result<(), Failed>
         ensures opened { (state self.new).open_path ≡ Some path.now }
         ensures start { (state self.new).position ≡ 0 }
@@ -22,8 +23,9 @@ pub trait Files {
         ensures never_falls { (state self.old).faults ≤ (state self.new).faults }
         ensures cause { HasCause (state self.old).faults (state self.new).faults result };
 
-    /// Puts bytes of the open path at the front of `into` and goes on by as many, at least one, or 0 at the end.
-    /// What stands behind them in `into`, and all of it and the position after `Failed`, is left open.
+    /// Puts bytes of the open path at the front of `into` and goes on by as many: at least one, or
+    /// 0 at the end. What then stands behind them in `into` is left open, and after `Failed` all of
+    /// it is, and the position.
     fn read(&mut self, into: &mut [u8]) -> Result<usize, Failed>
         requires room { 0 < length into.old }
         requires opened { IsSome (state self.old).open_path }

@@ -10,6 +10,8 @@ mod real_files;
 mod real_sink;
 mod sink;
 mod stored_file;
+#[cfg(test)]
+mod tests;
 
 pub use crate::files::{Failed, Files};
 pub use crate::memory_files::MemoryFiles;

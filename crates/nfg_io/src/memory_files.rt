@@ -32,7 +32,8 @@ pub struct MemoryFiles {
 
 impl Model for MemoryFiles {
     ghost use Rattle.std.specs.Prelude.{◌≡◌, ◌≤◌, false, IsSome};
-    ghost use Rattle.nfg_io.specs.Memory.{FilesInMemory, files_code};
+    ghost use Rattle.nfg_io.specs.Codes.{files_code};
+    ghost use Rattle.nfg_io.specs.Memory.{FilesInMemory};
     ghost use Rattle.nfg_io.specs.Entries.{paths_of, IsReading};
 
     ghost Value = { FilesInMemory };

@@ -23,7 +23,8 @@ pub struct MemorySink {
 
 impl Model for MemorySink {
     ghost use Rattle.std.specs.Prelude.{◌≤◌, vec_len, vec_capacity};
-    ghost use Rattle.nfg_io.specs.Memory.{SinkInMemory, sink_code};
+    ghost use Rattle.nfg_io.specs.Codes.{sink_code};
+    ghost use Rattle.nfg_io.specs.Memory.{SinkInMemory};
     ghost use Rattle.nfg_io.specs.Room.{HasRoom};
 
     ghost Value = { SinkInMemory };

@@ -20,11 +20,9 @@ pub struct RealFiles<'a, R: std::rt::Files> {
 }
 
 impl<'a, R: std::rt::Files> Model for RealFiles<'a, R> {
-    ghost use Rattle.nfg_io.specs.Real.{FilesOfSystem, system_code};
+    ghost use Rattle.nfg_io.specs.Real.{FilesOfSystem};
 
     ghost Value = { FilesOfSystem };
-
-    ghost coded = { system_code };
 
     ghost view = { λ f. record {
       faults = f.faults;

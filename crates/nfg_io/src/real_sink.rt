@@ -33,7 +33,7 @@ impl<'a, R: Print> Sink for RealSink<'a, R> {
 
     fn write(&mut self, piece: &[u8]) -> Result<usize, Failed> {
         match write_some(self.rt, piece) {
-            // what takes nothing would be called for ever
+            // a caller that goes on until all is taken would go on for ever
             Some(count) if count != 0 => Ok(count),
             _ => {
                 self.faults = self.faults.saturating_add(1);
