@@ -1,1 +1,3 @@
+mod HashChainsLemmas
 mod OwnTextsLemmas
+mod TextListLemmas

@@ -1,3 +1,4 @@
+pub mod HashChains
 pub mod Known
 pub mod KnownLaws
 pub mod OwnTexts
@@ -7,3 +8,4 @@ pub mod Represents
 pub mod RepresentsLaws
 pub mod Seen
 pub mod SeenLaws
+pub mod TextList

@@ -5,8 +5,10 @@
 //! knows of one table.
 #![tactic(auto)]
 
+mod hash_chains;
 mod own_table;
 mod shared;
+mod span;
 mod synthetics;
 mod text_list;
 

@@ -40,6 +40,10 @@ returns-then-place-self-clause-row_full c = λ e.
     full_at c.args.pass.now.size c.args.pass.now.texts c.args.codes.now (omega arith)
     (λ k at. c.in_default.ensures.unknown (suc k) (ap (λ texts. known_of texts (suc k)) (sym texts) ∙ at))
 
+pub push-requires : goal.push-requires
+push-requires c =
+    let most = row_size_most c.args.self.now c.requires.table.lawful.row_size in let of_self = c.self.view_is in let count = c.len-place.ensures in let test = c.if-place-self.false in omega arith
+
 pub number_of-requires : goal.number_of-requires
 number_of-requires c =
     let most = row_size_most c.args.self.now c.requires.table.lawful.row_size in let of_self = c.self.view_is in let test = c.if-place-self.false in omega arith

@@ -1,5 +1,8 @@
-use Rattle.std.proofs.Common.{◌≢◌, ◌<◌, ℕ, slice_get, Some}
+use Rattle.nfg_syn.proofs.TextListLemmas.{IsLeft, left_of}
 use Rattle.nfg_syn.proofs.text_list.TextList.find.Given as goal
 
-abbrev pub invariant-loop-place : goal.invariant-loop-place
-invariant-loop-place l = (k : ℕ) → k < l.place → slice_get l.self k ≢ Some l.codes
+abbrev pub invariant-loop-next : goal.invariant-loop-next
+invariant-loop-next l = IsLeft l.self-inside.hashes l.self l.text l.next
+
+abbrev pub decreases-loop-next : goal.decreases-loop-next
+decreases-loop-next l = left_of l.next
