@@ -4,3 +4,6 @@ pub mod Fronts
 pub mod ReadLemmas
 pub mod ScriptLemmas
 pub mod Sending
+pub mod Distinct
+pub mod Texts
+pub mod Interned

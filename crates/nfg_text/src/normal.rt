@@ -67,7 +67,8 @@ pub(crate) fn is_within(c: u32, low: u32, high: u32) -> bool
 /// copied as it stands.
 pub fn nfc_of(alloc: Global, t: &[u32]) -> Result<CodeList, AllocError>
     requires { IsText t.now }
-    ensures { IfOk result (λ codes. codes ≡ nfc t.now) }
+    ensures codes { IfOk result (λ codes. codes ≡ nfc t.now) }
+    ensures text { IfOk result (λ codes. IsText codes) }
 {
     let kept = kept_len(t);
     let mut codes = Vec::with_capacity(alloc, t.len())?;
@@ -107,7 +108,8 @@ fn safe_len(t: &[u32]) -> usize
 /// Adds the NFC of the text at the end.
 fn extend_composed(alloc: Global, codes: &mut Vec<u32>, t: &[u32]) -> Result<(), AllocError>
     requires { IsText t.now }
-    ensures { OnOk result (codes.new.items ≡ codes.old.items ++ nfc t.now) }
+    ensures codes { OnOk result (codes.new.items ≡ codes.old.items ++ nfc t.now) }
+    ensures text { IsText codes.old.items → OnOk result (IsText codes.new.items) }
 {
     if t.is_empty() {
         return Ok(());
@@ -138,11 +140,20 @@ fn to_chars(alloc: Global, t: &[u32]) -> Result<Vec<char>, AllocError>
 }
 
 fn extend_codes(codes: &mut Vec<u32>, chars: &[char]) -> Result<(), AllocError>
-    ensures { OnOk result (codes.new.items ≡ codes.old.items ++ chars.now) }
+    ensures codes { OnOk result (codes.new.items ≡ codes.old.items ++ chars.now) }
+    ensures text { IsText codes.old.items → OnOk result (IsText codes.new.items) }
 {
     codes.reserve(chars.len())?;
     for c in chars {
-        codes.push(*c as u32)?;
+        codes.push(to_code(*c))?;
     }
     Ok(())
+}
+
+#[inline]
+fn to_code(c: char) -> u32
+    ensures code { result ≡ c }
+    ensures scalar { IsScalar result }
+{
+    c as u32
 }
