@@ -13,7 +13,7 @@ abbrev pub missing : Bool → ℕ
 missing true = 0
 missing false = 1
 
-or-false : (b : Bool) → (b || false) ≡ b
+pub or-false : (b : Bool) → (b || false) ≡ b
 or-false true = refl
 or-false false = refl
 
@@ -34,34 +34,36 @@ distinct_count-cons x xs true e =
 distinct_count-cons x xs false e =
     let more : distinct_count bytes_eq (x ∷ xs) ≡ suc (distinct_count bytes_eq xs) = rw e refl in omega arith
 
+-- the same where another text stands in front
+distinct_count-push_cons : (xs : List (List ℕ)) (t x : List ℕ) (same : Bool) → bytes_eq x t ≡ same
+    → distinct_count bytes_eq (xs ++ t ∷ []) ≡ distinct_count bytes_eq xs + missing (is_member bytes_eq xs t)
+    → distinct_count bytes_eq (x ∷ (xs ++ t ∷ [])) ≡ distinct_count bytes_eq (x ∷ xs) + missing (is_member bytes_eq (x ∷ xs) t)
+distinct_count-push_cons xs t x true e again =
+    let before = distinct_count-cons x xs (is_member bytes_eq xs x) refl in
+    let after = distinct_count-cons x (xs ++ t ∷ []) (is_member bytes_eq xs x || bytes_eq x t) (is_member-push xs t x) in
+    let x_is_t : x ≡ t = (bytes_eq-Decides x t).0 e in
+    let t_is_x : bytes_eq t x ≡ true = (bytes_eq-Decides t x).1 (sym x_is_t) in
+    let first : missing (is_member bytes_eq xs x || bytes_eq x t) ≡ 0 =
+        ap missing (or-right (is_member bytes_eq xs x) (bytes_eq x t) e) in
+    let second : missing (is_member bytes_eq (x ∷ xs) t) ≡ 0 = rw t_is_x refl in
+    let alike : missing (is_member bytes_eq xs t) ≡ missing (is_member bytes_eq xs x) =
+        ap (λ q. missing (is_member bytes_eq xs q)) (sym x_is_t) in
+    omega (arith, before, after, again, first, second, alike)
+distinct_count-push_cons xs t x false e again =
+    let before = distinct_count-cons x xs (is_member bytes_eq xs x) refl in
+    let after = distinct_count-cons x (xs ++ t ∷ []) (is_member bytes_eq xs x || bytes_eq x t) (is_member-push xs t x) in
+    let t_is_not_x : bytes_eq t x ≡ false = false_from_ne_true (bytes_eq t x)
+        (λ yes. let back : bytes_eq x t ≡ true = (bytes_eq-Decides x t).1 (sym ((bytes_eq-Decides t x).0 yes)) in cc) in
+    let first : missing (is_member bytes_eq xs x || bytes_eq x t) ≡ missing (is_member bytes_eq xs x) =
+        ap missing (ap (λ b. is_member bytes_eq xs x || b) e ∙ or-false (is_member bytes_eq xs x)) in
+    let second : missing (is_member bytes_eq (x ∷ xs) t) ≡ missing (is_member bytes_eq xs t) = rw t_is_not_x refl in
+    omega (arith, before, after, again, first, second)
+
 -- a text behind the list counts where it is new there
 pub distinct_count-push : (xs : List (List ℕ)) (t : List ℕ)
     → distinct_count bytes_eq (xs ++ t ∷ []) ≡ distinct_count bytes_eq xs + missing (is_member bytes_eq xs t)
 distinct_count-push [] t = refl
-distinct_count-push (x ∷ xs) t = by (bytes_eq x t) refl
-  where
-    before : distinct_count bytes_eq (x ∷ xs) ≡ distinct_count bytes_eq xs + missing (is_member bytes_eq xs x)
-    before = distinct_count-cons x xs (is_member bytes_eq xs x) refl
-    after : distinct_count bytes_eq (x ∷ (xs ++ t ∷ [])) ≡ distinct_count bytes_eq (xs ++ t ∷ []) + missing (is_member bytes_eq xs x || bytes_eq x t)
-    after = distinct_count-cons x (xs ++ t ∷ []) (is_member bytes_eq xs x || bytes_eq x t) (is_member-push xs t x)
-    again : distinct_count bytes_eq (xs ++ t ∷ []) ≡ distinct_count bytes_eq xs + missing (is_member bytes_eq xs t)
-    again = distinct_count-push xs t
-    by : (same : Bool) → bytes_eq x t ≡ same
-        → distinct_count bytes_eq (x ∷ (xs ++ t ∷ [])) ≡ distinct_count bytes_eq (x ∷ xs) + missing (is_member bytes_eq (x ∷ xs) t)
-    by true e =
-        let x_is_t : x ≡ t = (bytes_eq-Decides x t).0 e in
-        let t_is_x : bytes_eq t x ≡ true = (bytes_eq-Decides t x).1 (sym x_is_t) in
-        let first : missing (is_member bytes_eq xs x || bytes_eq x t) ≡ 0 = ap missing (or-right (is_member bytes_eq xs x) (bytes_eq x t) e) in
-        let second : missing (is_member bytes_eq (x ∷ xs) t) ≡ 0 = rw t_is_x refl in
-        let alike : missing (is_member bytes_eq xs t) ≡ missing (is_member bytes_eq xs x) = ap (λ q. missing (is_member bytes_eq xs q)) (sym x_is_t) in
-        omega (arith, before, after, again, first, second, alike)
-    by false e =
-        let t_is_not_x : bytes_eq t x ≡ false =
-            false_from_ne_true (bytes_eq t x) (λ yes. let back = (bytes_eq-Decides x t).1 (sym ((bytes_eq-Decides t x).0 yes)) in cc) in
-        let first : missing (is_member bytes_eq xs x || bytes_eq x t) ≡ missing (is_member bytes_eq xs x) =
-            ap missing (ap (λ b. is_member bytes_eq xs x || b) e ∙ or-false (is_member bytes_eq xs x)) in
-        let second : missing (is_member bytes_eq (x ∷ xs) t) ≡ missing (is_member bytes_eq xs t) = rw t_is_not_x refl in
-        omega (arith, before, after, again, first, second)
+distinct_count-push (x ∷ xs) t = distinct_count-push_cons xs t x (bytes_eq x t) refl (distinct_count-push xs t)
 
 -- more texts are no fewer different ones
 pub distinct_count-append : (xs ys : List (List ℕ)) → distinct_count bytes_eq xs ≤ distinct_count bytes_eq (xs ++ ys)

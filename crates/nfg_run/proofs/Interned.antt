@@ -8,12 +8,13 @@ use native.Mathlib.Decide.{ℕ_discrete}
 use Rattle.nfg_syn.specs.Known.{Texts, IsUnknown, MapsBesides, crlf}
 use Rattle.nfg_syn.specs.KnownLaws.{same_text}
 use Rattle.nfg_syn.specs.OwnTexts.{known_of}
+use Rattle.nfg_text.specs.Graphemes.{is_too_long}
 use Rattle.nfg_run.specs.Evaluation.{takes_place}
 use Rattle.nfg_run.specs.Interning.{is_new, texts_with, gets_none}
 use Rattle.nfg_run.proofs.Distinct.{bytes_eq-same, or-right}
 
 -- lists with the same entries are one
-slice_get-same : (xs ys : List (List ℕ)) → ((k : ℕ) → slice_get xs k ≡ slice_get ys k) → xs ≡ ys
+pub slice_get-same : (xs ys : List (List ℕ)) → ((k : ℕ) → slice_get xs k ≡ slice_get ys k) → xs ≡ ys
 slice_get-same [] [] same = refl
 slice_get-same [] (y ∷ ys) same = let e = same 0 in cc
 slice_get-same (x ∷ xs) [] same = let e = same 0 in cc
@@ -39,23 +40,21 @@ is_member-at (x ∷ xs) t zero e =
     let here : bytes_eq t x ≡ true = (bytes_eq-Decides t x).1 (sym (same_text x t e)) in rw here refl
 is_member-at (x ∷ xs) t (suc k) e = or-right (bytes_eq t x) (is_member bytes_eq xs t) (is_member-at xs t k e)
 
+place_among : (xs : List (List ℕ)) (t x : List ℕ) (same : Bool) → bytes_eq t x ≡ same → is_member bytes_eq (x ∷ xs) t ≡ true
+    → (is_member bytes_eq xs t ≡ true → (k : ℕ) × (slice_get xs k ≡ Some t)) → (k : ℕ) × (slice_get (x ∷ xs) k ≡ Some t)
+place_among xs t x true s e further = (0, ap Some (sym ((bytes_eq-Decides t x).0 s)))
+place_among xs t x false s e further = let place = further (rw s at e) in (suc place.0, place.1)
+
 is_member-place : (xs : List (List ℕ)) (t : List ℕ) → is_member bytes_eq xs t ≡ true → (k : ℕ) × (slice_get xs k ≡ Some t)
 is_member-place [] t e = cc
-is_member-place (x ∷ xs) t e = by (bytes_eq t x) refl
-  where
-    by : (same : Bool) → bytes_eq t x ≡ same → (k : ℕ) × (slice_get (x ∷ xs) k ≡ Some t)
-    by true s = (0, ap Some (sym ((bytes_eq-Decides t x).0 s)))
-    by false s =
-        let further : is_member bytes_eq xs t ≡ true = rw s at e in
-        let place = is_member-place xs t further in
-        (suc place.0, place.1)
+is_member-place (x ∷ xs) t e = place_among xs t x (bytes_eq t x) refl e (is_member-place xs t)
 
 -- the text has this number already
 texts-known : (old new : List (List ℕ)) (k : ℕ) (t : List ℕ) → slice_get old k ≡ Some t
     → MapsBesides (known_of old) (negsuc (suc k)) t (known_of new) → new ≡ old
 texts-known old new k t known besides = slice_get-same new old (λ j. dite (ℕ_discrete j k)
     (λ same. ap (slice_get new) same ∙ besides.0 ∙ sym known ∙ ap (slice_get old) (sym same))
-    (λ differ. besides.1 (suc j) (λ e. differ (ap (λ n. n - 1) e))))
+    (λ differ. besides.1 (suc j) (λ e. differ (omega (arith, e)))))
 
 -- CR LF has its number in every table
 texts-line_end : (old new : List (List ℕ)) → MapsBesides (known_of old) (negsuc 0) crlf (known_of new) → new ≡ old
@@ -66,7 +65,7 @@ texts-next : (old new : List (List ℕ)) (t : List ℕ)
     → MapsBesides (known_of old) (negsuc (suc (length old))) t (known_of new) → new ≡ old ++ t ∷ []
 texts-next old new t besides = slice_get-same new (old ++ t ∷ []) (λ j. dite (ℕ_discrete j (length old))
     (λ same. ap (slice_get new) same ∙ besides.0 ∙ sym (slice_get-last old t) ∙ ap (slice_get (old ++ t ∷ [])) (sym same))
-    (λ differ. besides.1 (suc j) (λ e. differ (ap (λ n. n - 1) e)) ∙ sym (slice_get-others old t j differ)))
+    (λ differ. besides.1 (suc j) (λ e. differ (omega (arith, e))) ∙ sym (slice_get-others old t j differ)))
 
 takes_place-crlf : takes_place crlf ≡ false
 takes_place-crlf = refl
@@ -118,4 +117,5 @@ gets_none-full places texts t several unknown full =
     let other : t ≢ crlf = λ s. unknown 0 (ap Some (sym s)) in
     let absent : is_member bytes_eq texts t ≡ false =
         false_from_ne_true (is_member bytes_eq texts t) (λ yes. let place = is_member-place texts t yes in unknown (suc place.0) place.1) in
-    or-right _ _ (rw (takes_place-other t several other, absent, eq-eqb (length texts) places full) refl)
+    or-right (is_too_long t) (is_new texts t && (length texts == places))
+    (rw (takes_place-other t several other, absent, eq-eqb (length texts) places full) refl)

@@ -7,3 +7,7 @@ pub mod Sending
 pub mod Distinct
 pub mod Texts
 pub mod Interned
+pub mod Numbering
+pub mod Hexadecimal
+pub mod Joined
+pub mod Loaded

@@ -11,7 +11,7 @@ use Rattle.nfg_text.specs.Graphemes.{is_too_long}
 use Rattle.nfg_run.specs.declared.output.Cause.TheVariants.{NotYet}
 use Rattle.nfg_run.specs.Evaluation.{takes_place, kept}
 use Rattle.nfg_run.specs.Interning.{is_new, texts_with, texts_after, gets_none}
-use Rattle.nfg_run.proofs.Distinct.{bytes_eq-same, missing, or-right, is_member-push, distinct_count-push, distinct_count-append}
+use Rattle.nfg_run.proofs.Distinct.{bytes_eq-same, missing, or-false, or-right, is_member-push, distinct_count-push, distinct_count-append}
 
 -- the texts are the different ones of those that were used
 pub record AreDistinct (texts used : List (List ℕ)) : Type 0 where
@@ -32,10 +32,7 @@ AreDistinct-known texts used t are known = record {
         let here : is_member bytes_eq used q ≡ true =
             ap (is_member bytes_eq used) ((bytes_eq-Decides q t).0 e) ∙ sym (are.members t) ∙ known in
         rw (here) refl
-    by q false e = rw e (or_false (is_member bytes_eq used q))
-    or_false : (b : Bool) → (b || false) ≡ b
-    or_false true = refl
-    or_false false = refl
+    by q false e = rw e (or-false (is_member bytes_eq used q))
 
 -- a new text is used
 AreDistinct-new : (texts used : List (List ℕ)) (t : List ℕ) → AreDistinct texts used → is_member bytes_eq texts t ≡ false

@@ -1,5 +1,5 @@
 -- The script language (this project's own). A script is three lines: `load N utf8 PATH`, `len N`, `show N`.
-use Rattle.std.specs.Prelude.{ℕ, Bool, false, not, ◌&&◌, ◌||◌, ◌==◌, if◌then◌else◌, List, [], ◌∷◌, length, Option, Some, None, codes, bytes_eq, nat_lt, nat_le}
+use Rattle.std.specs.Prelude.{◌≡◌, ℕ, Bool, false, not, ◌&&◌, ◌||◌, ◌==◌, if◌then◌else◌, List, [], ◌∷◌, length, Option, Some, None, codes, bytes_eq, nat_lt, nat_le}
 use Rattle.std.specs.List.{list_all, list_any, slice_split}
 use Rattle.std.specs.Str.{is_utf8}
 use Rattle.nfg_run.specs.CommandLine.{line_feed}
@@ -45,6 +45,10 @@ load_len_show name path =
     record { line = 1; command = Load name path }
     ∷ record { line = 2; command = Len name }
     ∷ record { line = 3; command = Show name } ∷ []
+
+-- the commands are these three, for some name and path
+abbrev pub IsLoadLenShow : List NumberedCommand → Type 0
+IsLoadLenShow script = (name path : List ℕ) × (script ≡ load_len_show name path)
 
 -- the words of a line are the command and the name
 abbrev pub is_command_on : (command name : List ℕ) → List (List ℕ) → Bool

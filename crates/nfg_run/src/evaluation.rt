@@ -1,13 +1,14 @@
 //! Scripts are evaluated: clusters become numbers of a table, and `len` and `show` print from the numbers.
-ghost use Rattle.std.specs.Prelude.{◌≡◌, ◌<◌, ◌∷◌, [], IfOk, IfErr, Ok, Err, List, ℕ, length};
+ghost use Rattle.std.specs.Prelude.{◌≡◌, ◌<◌, ◌∷◌, [], IfOk, IfErr, OnOk, Some, Ok, Err, List, ℕ};
 ghost use Rattle.std.specs.Str.{chars};
-ghost use Rattle.nfg_text.specs.Text.{IsText};
-ghost use Rattle.nfg_text.specs.Graphemes.{clusters};
+ghost use Rattle.nfg_text.specs.Graphemes.{graphemes_of};
 ghost use Rattle.nfg_syn.specs.Known.{IsRowSize};
 ghost use Rattle.nfg_syn.specs.OwnTexts.{IsOwnPass, known_of};
 ghost use Rattle.nfg_syn.specs.Represents.{Represents};
-ghost use Rattle.nfg_run.specs.Evaluation.{evaluate as evaluated, loaded};
+ghost use Rattle.nfg_run.specs.Evaluation.{evaluate as evaluated, loaded, kept};
+ghost use Rattle.nfg_run.specs.Script.{IsLoadLenShow};
 ghost use Rattle.nfg_run.specs.Interning.{HasReason};
+ghost use Rattle.nfg_run.specs.declared.output.Cause.{Cause};
 ghost use Rattle.nfg_run.specs.declared.evaluation.LoadError.TheVariants.{OutOfMemory as NoMemory};
 
 use crate::interning::number_clusters;
@@ -42,11 +43,13 @@ pub(crate) fn evaluate(
     reads: &[FileRead],
     places: u32,
 ) -> Result<Output, AllocError>
-    requires { IsRowSize places }
+    requires row_size { IsRowSize places }
+    requires script { IsLoadLenShow script.now }
     ensures { IfOk result (λ output. output ≡ evaluated script.now reads.now places) }
 {
+    let line = script.load_line();
     let Some(read) = reads.first() else {
-        return Ok(refused_load(alloc, Cause::CannotRead));
+        return Ok(refused_at(alloc, line, Cause::CannotRead));
     };
     let (table, mut pass) = OwnTable::new(alloc, places)?;
     match load(alloc, &table, &mut pass, read) {
@@ -54,18 +57,28 @@ pub(crate) fn evaluate(
             bytes: print_answers(alloc, &table, &mut pass, numbers.as_slice())?,
             refused: None,
         }),
-        Err(LoadError::Refused(cause)) => Ok(refused_load(alloc, cause)),
-        Err(LoadError::OutOfMemory) => Err(AllocError),
+        Err(error) => refuse(alloc, line, error),
     }
 }
 
-/// The output where the first line is refused.
-fn refused_load(alloc: Global, cause: Cause) -> Output
-    ensures { result ≡ record { bytes = []; refused = Some (record { line = 1; cause = cause }) } }
+/// The output where a load at this line is refused.
+fn refuse(alloc: Global, line: u32, error: LoadError) -> Result<Output, AllocError>
+    ensures { IfOk result (λ output. (cause : Cause) × (error ≡ LoadError.Refused cause)
+        × (output ≡ record { bytes = []; refused = Some (record { line = line; cause = cause }) })) }
+{
+    match error {
+        LoadError::Refused(cause) => Ok(refused_at(alloc, line, cause)),
+        LoadError::OutOfMemory => Err(AllocError),
+    }
+}
+
+/// The output where nothing is printed before this line is refused.
+fn refused_at(alloc: Global, line: u32, cause: Cause) -> Output
+    ensures { result ≡ record { bytes = []; refused = Some (record { line = line; cause = cause }) } }
 {
     Output {
         bytes: ByteList::new(alloc),
-        refused: Some(RefusedLine { line: 1, cause }),
+        refused: Some(RefusedLine { line, cause }),
     }
 }
 
@@ -108,9 +121,29 @@ fn load_bytes(
     ensures refused { IfErr result (λ error.
         HasReason error (λ cause. loaded table.now [] (FileRead.Bytes bytes.now) ≡ Err cause)) }
 {
-    let Ok(text) = simdutf8::basic::from_utf8(bytes) else {
-        return Err(LoadError::Refused(Cause::NotYet));
-    };
+    match simdutf8::basic::from_utf8(bytes) {
+        Ok(text) => load_text(alloc, table, pass, text),
+        Err(_) => Err(LoadError::Refused(Cause::NotYet)),
+    }
+}
+
+/// The numbers of the clusters of a text in NFC.
+fn load_text(
+    alloc: Global,
+    table: &OwnTable,
+    pass: &mut OwnPass,
+    text: &str,
+) -> Result<Vec<i32>, LoadError>
+    requires table { IsOwnPass table.now pass.old }
+    requires empty { pass.old.texts ≡ [] }
+    ensures table { IsOwnPass table.now pass.new }
+    ensures kept { OnOk result (kept table.now [] (graphemes_of (chars text.now))
+        ≡ Ok (graphemes_of (chars text.now))) }
+    ensures numbers { IfOk result (λ numbers.
+        Represents (known_of pass.new.texts) numbers.items (graphemes_of (chars text.now))) }
+    ensures refused { IfErr result (λ error. HasReason error (λ cause.
+        kept table.now [] (graphemes_of (chars text.now)) ≡ Err cause)) }
+{
     let codes = code_points(alloc, text)?;
     let composed = nfc_of(alloc, codes.as_slice())?;
     let ends = cluster_ends(alloc, composed.as_slice())?;
@@ -119,8 +152,7 @@ fn load_bytes(
 
 /// The code points of a text.
 fn code_points(alloc: Global, text: &str) -> Result<Vec<u32>, AllocError>
-    ensures codes { IfOk result (λ codes. codes.items ≡ chars text.now) }
-    ensures text { IfOk result (λ codes. IsText codes.items) }
+    ensures { IfOk result (λ codes. codes.items ≡ chars text.now) }
 {
     text.chars().map(u32::from).collect(alloc)
 }

@@ -95,7 +95,8 @@ fn number_of(
     }
     match table.intern(alloc, pass, cluster) {
         Ok(n) => Ok(n),
+        Err(InternError::RowFull) => Err(LoadError::Refused(Cause::NotYet)),
+        Err(InternError::NoPortion) => Err(LoadError::Refused(Cause::NotYet)),
         Err(InternError::OutOfMemory) => Err(LoadError::OutOfMemory),
-        Err(_) => Err(LoadError::Refused(Cause::NotYet)),
     }
 }

@@ -1,5 +1,5 @@
 //! What `len` and `show` print of numbers.
-ghost use Rattle.std.specs.Prelude.{◌≡◌, ◌<◌, ◌++◌, ◌∷◌, [], ℕ, List, IfOk, OnOk, IsSome, IfSome, length, if◌then◌else◌, ◌==◌, true};
+ghost use Rattle.std.specs.Prelude.{◌≡◌, ◌<◌, ◌++◌, ◌∷◌, [], ℕ, List, IfOk, OnOk, Some, length, if◌then◌else◌, ◌==◌, true};
 ghost use Rattle.std.specs.Fmt.{decimal, digits, digit_glyph};
 ghost use Rattle.nfg_syn.specs.Known.{text_at};
 ghost use Rattle.nfg_syn.specs.OwnTexts.{IsOwnPass, known_of};
@@ -59,11 +59,11 @@ fn show_cluster(
     line: &mut Vec<u8>,
 ) -> Result<(), AllocError>
     requires table { IsOwnPass table.now pass.old }
-    requires known { IsSome (spelling (known_of pass.old.texts) n) }
+    requires known { (cluster : List ℕ) × (spelling (known_of pass.old.texts) n ≡ Some cluster) }
     ensures table { IsOwnPass table.now pass.new }
     ensures known { known_of pass.new.texts ≡ known_of pass.old.texts }
-    ensures shown { OnOk result (IfSome (spelling (known_of pass.old.texts) n) (λ cluster.
-        line.new.items ≡ line.old.items ++ shown_cluster cluster)) }
+    ensures shown { (cluster : List ℕ) → spelling (known_of pass.old.texts) n ≡ Some cluster
+        → OnOk result (line.new.items ≡ line.old.items ++ shown_cluster cluster) }
 {
     if n >= 0 {
         return push_hexadecimal(line, n as u32);
@@ -79,11 +79,11 @@ fn show_synthetic(
     line: &mut Vec<u8>,
 ) -> Result<(), AllocError>
     requires table { IsOwnPass table.now pass.old }
-    requires known { IsSome (text_at (known_of pass.old.texts) n) }
+    requires known { (cluster : List ℕ) × (text_at (known_of pass.old.texts) n ≡ Some cluster) }
     ensures table { IsOwnPass table.now pass.new }
     ensures known { known_of pass.new.texts ≡ known_of pass.old.texts }
-    ensures shown { OnOk result (IfSome (text_at (known_of pass.old.texts) n) (λ cluster.
-        line.new.items ≡ line.old.items ++ shown_cluster cluster)) }
+    ensures shown { (cluster : List ℕ) → text_at (known_of pass.old.texts) n ≡ Some cluster
+        → OnOk result (line.new.items ≡ line.old.items ++ shown_cluster cluster) }
 {
     let count = table.count(pass, n);
     'spelling: for k in 0..count {
@@ -98,9 +98,10 @@ fn separate(line: &mut Vec<u8>, separator: u8, place: usize) -> Result<(), Alloc
     ensures { OnOk result (line.new.items
         ≡ line.old.items ++ (if place == 0 then [] else separator ∷ [])) }
 {
-    if place > 0 {
-        line.push(separator)?;
+    if place == 0 {
+        return Ok(());
     }
+    line.push(separator)?;
     Ok(())
 }
 
@@ -108,9 +109,11 @@ fn separate(line: &mut Vec<u8>, separator: u8, place: usize) -> Result<(), Alloc
 fn push_hexadecimal(line: &mut Vec<u8>, number: u32) -> Result<(), AllocError>
     ensures { OnOk result (line.new.items ≡ line.old.items ++ digits 16 true number) }
 {
-    if number >= 16 {
-        push_hexadecimal(line, number / 16)?;
+    if number < 16 {
+        line.push(digit(number))?;
+        return Ok(());
     }
+    push_hexadecimal(line, number / 16)?;
     line.push(digit(number % 16))?;
     Ok(())
 }

@@ -1,5 +1,5 @@
 //! Scripts are read.
-ghost use Rattle.std.specs.Prelude.{◌≡◌, ◌<◌, ◌∷◌, [], IfOk, map, ◌==◌, ◌||◌, ◌&&◌, length, nat_le};
+ghost use Rattle.std.specs.Prelude.{◌≡◌, ◌<◌, ◌∷◌, [], IfOk, map, ◌==◌};
 ghost use Rattle.std.specs.List.{list_all, list_any, slice_split};
 ghost use Rattle.nfg_run.specs.Script.{parse as parsed, load_paths, commands_of, three_commands};
 ghost use Rattle.nfg_run.specs.Script.{is_command_on as is_on};
@@ -34,6 +34,13 @@ impl Script {
         ensures { load_paths self.now ≡ result.now ∷ [] }
     {
         self.path.as_str()
+    }
+
+    /// The line of its one load.
+    pub fn load_line(&self) -> u32
+        ensures { result ≡ 1 }
+    {
+        1
     }
 }
 

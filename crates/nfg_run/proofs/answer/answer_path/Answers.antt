@@ -1,8 +1,9 @@
-use Rattle.std.proofs.Common.{◌≡◌, [], Some, None, sym, ap, ◌∙◌}
+use Rattle.std.proofs.Common.{◌≡◌, [], Some, None, refl, sym, ap, ◌∙◌, lit≤}
 use Rattle.nfg_run.specs.Script.{parse, load_paths}
 use Rattle.nfg_run.specs.Answer.{answer_script, answer_output, default_places}
 use Rattle.nfg_run.specs.Evaluation.{evaluate}
 use Rattle.nfg_run.specs.Headline.{AreLoadsRead}
+use Rattle.nfg_run.proofs.ScriptLemmas.{parse-shape}
 use Rattle.nfg_run.proofs.Answered.{IsAnswered-refused, IsAnswered-accepted, HasFailedAt-earlier, IfOk-map}
 use Rattle.nfg_run.proofs.answer.answer_path.Goals as goal
 
@@ -29,3 +30,10 @@ returns g c =
     (λ given is words named. IsAnswered-accepted words c.args.path.now c.in-Ok.bytes _ _ given c.in-Some.script reads
     named c.in-Ok.ensures.bytes accepted loads cause (is ∙ ap (λ o. answer_output o.bytes o.refused) output))
     c.answer_to_output.ensures
+
+pub evaluate-requires-clause-script : goal.evaluate-requires-clause-script
+evaluate-requires-clause-script g c =
+    parse-shape c.in-Ok.bytes c.in-Some.script (ap parse (sym c.as_slice.ensures) ∙ (sym c.in_ok-parse.ensures ∙ c.in-Some.is))
+
+pub evaluate-requires-clause-row_size : goal.evaluate-requires-clause-row_size
+evaluate-requires-clause-row_size g c = record { exponent = 18; power = refl; at_least_16 = lit≤ tt; at_most_2_20 = lit≤ tt }
