@@ -1,13 +1,12 @@
 -- What is held of a cluster that goes on.
-use Rattle.std.proofs.Common.{◌≡◌, ℕ, ◌+◌, ◌<◌, ◌≤◌, Bool, true, false, nat_lt, List, [], ◌∷◌, ◌++◌, take, reverse, length, if◌then◌else◌, refl, sym, ap, ap₂, subst, ◌∙◌, arith, lt-ltb, le-ltb, append-nil}
+use Rattle.std.proofs.Common.{◌≡◌, ℕ, ◌<◌, ◌≤◌, Bool, true, false, List, [], ◌∷◌, ◌++◌, take, reverse, length, if◌then◌else◌, refl, sym, ap, subst, ◌∙◌, arith, lt-ltb, le-ltb}
 use Rattle.std.proofs.lemmas.Bool.{cases_lt}
 use Rattle.std.proofs.lemmas.List.{length-append, length-take, take_all, take-append-le, reverse-append, length-take-le}
 use Rattle.std.proofs.Common.{◌⊎◌, inl, inr}
 use Rattle.nfg_text.specs.Breaks.{Remembers}
 use Rattle.nfg_text.specs.Graphemes.{is_too_long}
 use Rattle.nfg_text.specs.declared.breaks.Memory.{Memory}
-use Rattle.nfg_segment.specs.Given.{Given, with_clusters}
-use Rattle.nfg_segment.specs.Held.{Unfinished, Keeps, is_some, ends_before, closed, left_open, next, as_list}
+use Rattle.nfg_segment.specs.Held.{Unfinished, Keeps, is_some, ends_before, closed, left_open, as_list}
 
 abbrev pub unfinished : List ℕ → Bool → Memory → Unfinished
 unfinished head is_long memory = record { head = head; is_long = is_long; memory = memory }

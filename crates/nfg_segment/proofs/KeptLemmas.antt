@@ -1,8 +1,8 @@
 -- Clusters that are kept in lists of numbers.
-use Rattle.std.proofs.Common.{◌≡◌, ℕ, ◌+◌, ◌-◌, ◌<◌, ◌≤◌, zero, suc, Bool, true, false, nat_lt, List, [], ◌∷◌, ◌++◌, map, length, take, drop, get_or, if◌then◌else◌, refl, sym, ap, ap₂, subst, ◌∙◌, arith, append-nil, append_assoc, Option, Some, None, lt-ltb, le-ltb, ◌⊎◌, inl, inr}
-use Rattle.std.proofs.lemmas.Bool.{and_parts, ltb-true}
-use Rattle.std.proofs.lemmas.List.{map-append, take-map, get_or-map, length-append, length-map, drop-append-le, take-append-le, length-drop, drop_at, take_all}
-use Rattle.std.specs.List.{slice_index_or, slice_range}
+use Rattle.std.proofs.Common.{◌≡◌, ℕ, ◌+◌, ◌-◌, ◌<◌, ◌≤◌, zero, suc, Bool, true, false, nat_lt, List, [], ◌∷◌, ◌++◌, map, length, take, drop, get_or, if◌then◌else◌, refl, sym, ap, ap₂, subst, ◌∙◌, arith, append-nil, append_assoc, Option, Some, None, lt-ltb, le-ltb, inl, inr}
+use Rattle.std.proofs.lemmas.Bool.{and_parts}
+use Rattle.std.proofs.lemmas.List.{map-append, take-map, length-append, drop-append-le, take-append-le, length-drop, drop_at, take_all}
+use Rattle.std.specs.List.{slice_index_or}
 use Rattle.std.specs.Str.{all_scalars}
 use lib.Utf8.{scalar, scalar_cases}
 use Rattle.nfg_text.specs.Text.{IsText}

@@ -1,12 +1,12 @@
 -- A cluster that goes on is one cluster, and what it ends can be told from it alone.
-use Rattle.std.proofs.Common.{◌≡◌, ℕ, Bool, true, false, List, [], ◌∷◌, ◌++◌, reverse, length, ◌≤◌, if◌then◌else◌, refl, sym, ap, ap₂, subst, ◌∙◌, append_assoc, append-nil, arith}
+use Rattle.std.proofs.Common.{◌≡◌, ℕ, Bool, true, false, List, [], ◌∷◌, ◌++◌, reverse, length, ◌≤◌, if◌then◌else◌, refl, sym, ap, ap₂, ◌∙◌, append_assoc, append-nil, arith}
 use Rattle.unicode_segmentation.specs.Grapheme.{is_grapheme_break}
 use Rattle.unicode_segmentation.specs.Segments.{cut}
 use Rattle.nfg_text.specs.Graphemes.{clusters}
 use Rattle.nfg_text.proofs.AtBreak.{clusters-nil, onto-reverse, reads_one_ahead}
 use Rattle.nfg_text.proofs.Cuts.{cut-cons, cut-nil, cut_some, put_first, put_first-nil, onto}
 use Rattle.nfg_text.proofs.Proved.{clusters_where_broken}
-use Rattle.nfg_segment.specs.Held.{is_some, ends_before, closed, left_open, next, next_all, closed_all, as_list}
+use Rattle.nfg_segment.specs.Held.{ends_before, closed, left_open, next, next_all, closed_all, as_list}
 
 -- the text is one cluster, or empty
 abbrev pub IsOne : List ℕ → Type 0

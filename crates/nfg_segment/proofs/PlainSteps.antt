@@ -1,5 +1,5 @@
 -- Runs of plain code points.
-use Rattle.std.proofs.Common.{◌≡◌, ℕ, zero, suc, ◌+◌, ◌-◌, ◌≤◌, ◌<◌, Bool, true, false, ◌&&◌, List, [], ◌∷◌, ◌++◌, length, take, get_or, refl, sym, ap, ap₂, subst, ◌∙◌, arith, append_assoc, append-nil}
+use Rattle.std.proofs.Common.{◌≡◌, ℕ, zero, suc, ◌+◌, ◌<◌, true, false, List, [], ◌∷◌, ◌++◌, length, take, drop, get_or, refl, sym, ap, ap₂, subst, ◌∙◌, arith, append_assoc, append-nil}
 use Rattle.std.proofs.lemmas.Bool.{and_parts, and_from}
 use Rattle.std.proofs.lemmas.List.{length-append, take_more, take_all}
 use Rattle.std.specs.List.{list_all}
@@ -15,6 +15,7 @@ use Rattle.nfg_segment.proofs.Keeping.{none-is_nil}
 use Rattle.nfg_segment.proofs.OneCluster.{clusters-single}
 use Rattle.nfg_segment.proofs.Stable.{stable-but_one, no_line}
 use Rattle.nfg_segment.proofs.Steps.{held}
+use Rattle.nfg_segment.proofs.TextLemmas.{take-part}
 
 -- a line feed is not plain
 plain_no_line : (c : ℕ) → is_plain c ≡ true → c ≡ 0xA → ⊥
@@ -91,3 +92,12 @@ pub one_item : (t : List ℕ) (x d : ℕ) → length t ≡ 1 → x ≡ get_or t 
 one_item [] x d e at = absurd (omega (arith, e))
 one_item (y ∷ []) x d e at = ap (λ z. z ∷ []) (sym at)
 one_item (y ∷ (z ∷ t)) x d e at = absurd (omega (arith, e))
+
+-- a block of plain code points more
+pub AllPlain-block : (t block : List ℕ) (at n : ℕ) → AllPlain (take at t) → AllPlain block → block ≡ take n (drop at t) → AllPlain (take (at + n) t)
+AllPlain-block t block at n all more e =
+    ap (list_all is_plain) (sym (take-part t at n)) ∙ append (take at t) (take n (drop at t)) all (subst AllPlain e more)
+  where
+    append : (xs ys : List ℕ) → AllPlain xs → AllPlain ys → AllPlain (xs ++ ys)
+    append [] ys one two = two
+    append (x ∷ xs) ys one two = let parts = and_parts (is_plain x) (list_all is_plain xs) one in and_from _ _ parts.0 (append xs ys parts.1 two)

@@ -1,6 +1,5 @@
 -- What a segmenter knows, step by step.
-use Rattle.std.proofs.Common.{◌≡◌, ℕ, ◌+◌, ◌≤◌, ◌<◌, Bool, true, false, ◌&&◌, List, [], ◌∷◌, ◌++◌, length, reverse, if◌then◌else◌, refl, sym, ap, ap₂, subst, ◌∙◌, arith, append_assoc, append-nil, inl, inr}
-use Rattle.std.proofs.lemmas.Bool.{and_parts}
+use Rattle.std.proofs.Common.{◌≡◌, ℕ, Bool, true, false, List, [], ◌∷◌, ◌++◌, length, reverse, if◌then◌else◌, refl, sym, ap, ◌∙◌, arith, append_assoc, append-nil, inl, inr}
 use Rattle.std.proofs.lemmas.List.{length-append}
 use Rattle.unicode_segmentation.specs.Grapheme.{is_grapheme_break}
 use Rattle.unicode_normalization.specs.Forms.{nfc}
@@ -8,7 +7,7 @@ use Rattle.nfg_text.specs.Graphemes.{clusters, graphemes_of, starts_safely}
 use Rattle.nfg_text.proofs.AtBreak.{clusters-nil}
 use Rattle.nfg_text.proofs.Proved.{nfc_at_safe_start, safe_starts_stay, clusters_at_safe_start, graphemes_at_stable}
 use Rattle.nfg_segment.specs.Follows.{IsSettled, Tracks, Follows}
-use Rattle.nfg_segment.specs.Held.{Unfinished, Held, Keeps, is_some, ends_before, closed, left_open, next, next_all, closed_all, as_list, none_safe}
+use Rattle.nfg_segment.specs.Held.{Unfinished, Held, Keeps, closed, left_open, next, next_all, closed_all, as_list, none_safe}
 use Rattle.nfg_segment.proofs.OneCluster.{IsOne, IsOne-next, IsOne-next_all, IsOne-left_open, next_all-goes_on, next-goes_on, length-as_list}
 use Rattle.nfg_segment.proofs.Stable.{graphemes-nil, stable-all, stable-but_one, stable-hold, ascii_safe, no_line}
 

@@ -2,7 +2,6 @@
 use Rattle.std.specs.Prelude.{◌≡◌, ℕ, ◌≤◌, List, [], ◌∷◌, ◌++◌, length, take}
 use Rattle.unicode_normalization.specs.Forms.{nfc}
 use Rattle.nfg_text.specs.Graphemes.{clusters, graphemes_of, stable_len, IsStableBetween}
-use Rattle.nfg_text.specs.Plain.{is_plain}
 use Rattle.nfg_segment.specs.Given.{Given, with_clusters}
 use Rattle.nfg_segment.specs.Held.{Held, Keeps, as_list}
 

@@ -2,7 +2,7 @@
 use Rattle.std.specs.Prelude.{◌≡◌, ℕ, Bool, true, false, not, ◌&&◌, List, [], ◌∷◌, ◌++◌, take, reverse, if◌then◌else◌}
 use Rattle.unicode_segmentation.specs.Grapheme.{is_grapheme_break}
 use Rattle.nfg_text.specs.Breaks.{Remembers}
-use Rattle.nfg_text.specs.Graphemes.{clusters, is_too_long, starts_safely}
+use Rattle.nfg_text.specs.Graphemes.{is_too_long, starts_safely}
 use Rattle.nfg_text.specs.declared.breaks.Memory.{Memory}
 
 -- of a cluster that may go on: its first 1,024 code points, whether it has more, and what the rules read of it

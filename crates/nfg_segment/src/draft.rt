@@ -1,31 +1,32 @@
 //! A list of code points that can go back to what it was.
-ghost use Rattle.std.specs.Prelude.{◌≡◌, ◌≤◌, [], ◌∷◌, ◌++◌, take, drop, length, OnOk, OnErr, if◌then◌else◌};
+ghost use Rattle.std.specs.Prelude.{◌≡◌, ◌≤◌, [], ◌∷◌, ◌++◌, false, take, length, OnOk, OnErr, if◌then◌else◌};
 ghost use Rattle.std.specs.Char.{IsScalar};
 ghost use Rattle.nfg_text.specs.Text.{IsText};
 ghost use Rattle.nfg_segment.specs.Draft.{Drafted};
 
 use std::alloc::{AllocError, Global};
 use std::marker::Model;
+use std::mem;
 
-/// A list, and what it was when it was last marked. Nothing is copied to keep both: what was
-/// marked stands at the front of the vector, and where the list has been emptied since, it begins
-/// behind that.
+/// A list, and what it was when it was last marked. Nothing is copied to keep both: until the list
+/// is emptied, what was marked is its front, and then it is put aside as it is.
 #[derive(Drop)]
 pub(crate) struct Draft {
     chars: Vec<char>,
     marked: usize,
-    is_behind: bool,
+    aside: Vec<char>,
+    is_aside: bool,
 }
 
 impl Model for Draft {
     ghost Value = { Drafted };
 
     ghost view = { λ d. record {
-      current = if d.is_behind then drop d.marked d.chars.items else d.chars.items;
-      marked = take d.marked d.chars.items;
+      current = d.chars.items;
+      marked = if d.is_aside then d.aside.items else take d.marked d.chars.items;
     } };
 
-    ghost invariant = { λ d. d.marked ≤ length d.chars.items };
+    ghost invariant = { λ d. d.is_aside ≡ false → d.marked ≤ length d.chars.items };
 }
 
 impl Draft {
@@ -35,7 +36,8 @@ impl Draft {
         Draft {
             chars: Vec::new(alloc),
             marked: 0,
-            is_behind: false,
+            aside: Vec::new(alloc),
+            is_aside: false,
         }
     }
 
@@ -43,22 +45,14 @@ impl Draft {
     pub(crate) fn as_slice(&self) -> &[char]
         ensures { result.now ≡ self.now.current }
     {
-        if self.is_behind {
-            &self.chars[self.marked..]
-        } else {
-            &self.chars
-        }
+        &self.chars
     }
 
     #[inline]
     pub(crate) fn len(&self) -> usize
         ensures { result ≡ length self.now.current }
     {
-        if self.is_behind {
-            self.chars.len() - self.marked
-        } else {
-            self.chars.len()
-        }
+        self.chars.len()
     }
 
     #[inline]
@@ -90,8 +84,12 @@ impl Draft {
         ensures current { self.new.current ≡ [] }
         ensures marked { self.new.marked ≡ self.old.marked }
     {
-        self.chars.truncate(self.marked);
-        self.is_behind = true;
+        if !self.is_aside {
+            self.chars.truncate(self.marked);
+            mem::swap(&mut self.chars, &mut self.aside);
+            self.is_aside = true;
+        }
+        self.chars.clear();
     }
 
     /// Marks the list as it is.
@@ -100,12 +98,7 @@ impl Draft {
         ensures current { self.new.current ≡ self.old.current }
         ensures marked { self.new.marked ≡ self.old.current }
     {
-        if self.is_behind {
-            let len = self.chars.len() - self.marked;
-            self.chars.rotate_left(self.marked);
-            self.chars.truncate(len);
-            self.is_behind = false;
-        }
+        self.is_aside = false;
         self.marked = self.chars.len();
     }
 
@@ -114,8 +107,13 @@ impl Draft {
         ensures current { self.new.current ≡ self.old.marked }
         ensures marked { self.new.marked ≡ self.old.marked }
     {
-        self.chars.truncate(self.marked);
-        self.is_behind = false;
+        if self.is_aside {
+            mem::swap(&mut self.chars, &mut self.aside);
+            self.is_aside = false;
+            self.marked = self.chars.len();
+        } else {
+            self.chars.truncate(self.marked);
+        }
     }
 }
 

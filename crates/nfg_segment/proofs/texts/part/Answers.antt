@@ -1,4 +1,4 @@
-use Rattle.std.proofs.Common.{◌≡◌, ◌≤◌, length, get_or, map, ap, sym, ◌∙◌, arith}
+use Rattle.std.proofs.Common.{length, sym, arith}
 use Rattle.std.proofs.lemmas.List.{get_or-map}
 use Rattle.nfg_segment.specs.Kept.{spanned}
 use Rattle.nfg_segment.specs.declared.texts.Span.{Span}

@@ -1,4 +1,4 @@
-use Rattle.std.proofs.Common.{ℕ, ◌<◌, ◌+◌, length, ap, arith, ◌∙◌, sym, subst}
+use Rattle.std.proofs.Common.{◌<◌, length, ap, arith}
 use Rattle.std.proofs.lemmas.List.{length-map}
 use Rattle.nfg_segment.specs.Kept.{head_of}
 use Rattle.nfg_segment.proofs.KeptLemmas.{AreCounted-at}

@@ -1,4 +1,4 @@
-use Rattle.std.proofs.Common.{◌∙◌, sym, ap, subst, length}
+use Rattle.std.proofs.Common.{sym, ap, subst, length}
 use Rattle.nfg_segment.specs.Kept.{AreCounted}
 use Rattle.nfg_segment.proofs.KeptLemmas.{AreCounted-take, heads-cut}
 use Rattle.nfg_segment.proofs.clusters.ClustersClusterSink.cut_back.Goals as goal

@@ -1,5 +1,5 @@
-use Rattle.std.proofs.Common.{ℕ, ◌≡◌, ◌-◌, ◌∙◌, ◌++◌, ◌∷◌, [], map, sym, ap, ap₂, subst, length, append-nil, arith}
-use Rattle.std.proofs.lemmas.List.{length-map, length-append}
+use Rattle.std.proofs.Common.{◌≡◌, ◌-◌, ◌∙◌, [], map, sym, ap, ap₂, subst, length, append-nil, arith}
+use Rattle.std.proofs.lemmas.List.{length-map}
 use Rattle.nfg_segment.specs.Given.{first_or}
 use Rattle.nfg_segment.specs.Kept.{AreCounted, head_of}
 use Rattle.nfg_segment.proofs.KeptLemmas.{heads-known, counted-known, heads-pushed, counted-pushed, given_of}

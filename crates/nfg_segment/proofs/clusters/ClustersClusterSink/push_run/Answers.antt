@@ -1,6 +1,5 @@
-use Rattle.std.proofs.Common.{◌∙◌, sym, ap, subst, length}
+use Rattle.std.proofs.Common.{◌∙◌, sym, ap, length}
 use Rattle.nfg_text.specs.Plain.{singles}
-use Rattle.nfg_segment.specs.Given.{with_clusters}
 use Rattle.nfg_segment.proofs.KeptLemmas.{heads-run, counted-run, with_clusters-singles, given_of}
 use Rattle.nfg_segment.proofs.clusters.ClustersClusterSink.push_run.Goals as goal
 

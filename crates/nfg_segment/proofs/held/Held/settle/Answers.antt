@@ -1,4 +1,4 @@
-use Rattle.std.proofs.Common.{◌∙◌, ◌∷◌, [], ap, sym, subst, append-nil}
+use Rattle.std.proofs.Common.{◌∙◌, ap, sym, subst, append-nil}
 use Rattle.unicode_normalization.specs.Forms.{nfc}
 use Rattle.nfg_text.proofs.Proved.{safe_starts_stay}
 use Rattle.nfg_segment.specs.Given.{with_clusters}

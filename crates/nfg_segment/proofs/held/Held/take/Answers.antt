@@ -1,4 +1,4 @@
-use Rattle.std.proofs.Common.{ℕ, List, ◌+◌, ◌-◌, ◌++◌, ◌∙◌, [], length, take, drop, refl, sym, ap, subst, append-nil, append_assoc, arith, zero-le, take_all}
+use Rattle.std.proofs.Common.{◌-◌, ◌++◌, ◌∙◌, [], length, take, drop, refl, sym, ap, subst, append-nil, append_assoc, arith, zero-le, take_all}
 use Rattle.std.proofs.lemmas.List.{take_rest, length-drop}
 use Rattle.nfg_segment.specs.Follows.{Follows}
 use Rattle.nfg_segment.specs.Given.{with_clusters}

@@ -1,4 +1,4 @@
-use Rattle.std.proofs.Common.{◌∙◌, ◌∷◌, ◌++◌, ◌-◌, [], length, take, ap, sym, arith}
+use Rattle.std.proofs.Common.{◌∙◌, ◌∷◌, ◌++◌, ◌-◌, [], length, take, ap, arith}
 use Rattle.nfg_text.specs.Plain.{singles}
 use Rattle.nfg_segment.specs.Given.{with_clusters}
 use Rattle.nfg_segment.proofs.PlainSteps.{follows-run}

@@ -1,4 +1,4 @@
-use Rattle.std.proofs.Common.{◌∙◌, sym, ap, subst, []}
+use Rattle.std.proofs.Common.{◌∙◌, sym, ap, subst}
 use Rattle.nfg_segment.specs.Given.{with_clusters}
 use Rattle.nfg_segment.specs.Held.{Keeps}
 use Rattle.nfg_segment.proofs.Keeping.{as_list-some, as_list-none, none-is_nil}

@@ -1,4 +1,4 @@
-use Rattle.std.proofs.Common.{◌∙◌, sym, ap, subst, []}
+use Rattle.std.proofs.Common.{◌∙◌, sym, ap, subst}
 use Rattle.nfg_segment.specs.Given.{with_clusters}
 use Rattle.nfg_segment.specs.Held.{Keeps}
 use Rattle.nfg_segment.proofs.Keeping.{closed-ends, left_open-ends, closed-stays, left_open-stays}

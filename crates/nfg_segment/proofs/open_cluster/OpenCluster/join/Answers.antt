@@ -1,6 +1,4 @@
-use Rattle.std.proofs.Common.{◌≡◌, ◌∷◌, ◌++◌, [], reverse, length, ap, arith, sym, subst}
-use Rattle.std.proofs.lemmas.List.{length-append}
-use Rattle.nfg_text.specs.Breaks.{Remembers}
+use Rattle.std.proofs.Common.{reverse, ap, arith}
 use Rattle.nfg_segment.proofs.Keeping.{joins-short, joins-long, Keeps-same}
 use Rattle.nfg_segment.proofs.open_cluster.OpenCluster.join.Goals as goal
 

@@ -1,4 +1,4 @@
-use Rattle.std.proofs.Common.{◌≡◌, ◌∙◌, ◌++◌, [], sym, append-nil, length, arith, refl}
+use Rattle.std.proofs.Common.{◌∙◌, [], sym, append-nil, arith, refl}
 use Rattle.nfg_segment.proofs.KeptLemmas.{texts-unspanned, within-unspanned, within-pushed, texts-pushed}
 use Rattle.nfg_segment.proofs.texts.Texts.push.Goals as goal
 
