@@ -1,0 +1,12 @@
+use Rattle.std.proofs.Common.{◌≤◌, ◌-◌, take, length}
+use Rattle.nfg_text.specs.Plain.{AllPlain}
+use Rattle.nfg_segment.proofs.plain.plain_blocks.Given as goal
+
+abbrev pub invariant-loop-at : goal.invariant-loop-at
+invariant-loop-at l = record {
+  within : l.at ≤ length l.text;
+  plain : AllPlain (take l.at l.text);
+}
+
+abbrev pub decreases-loop-at : goal.decreases-loop-at
+decreases-loop-at l = length l.text - l.at

@@ -1,0 +1,5 @@
+pub mod Draft
+pub mod Follows
+pub mod Given
+pub mod Held
+pub mod Kept

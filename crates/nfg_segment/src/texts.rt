@@ -1,0 +1,91 @@
+//! Texts one after another.
+ghost use Rattle.std.specs.Prelude.{◌≡◌, ◌<◌, ℕ, List, [], ◌∷◌, ◌++◌, length, map, OnOk};
+ghost use Rattle.std.specs.List.{slice_index_or};
+ghost use Rattle.nfg_segment.specs.Kept.{spanned, AreWithin};
+
+use std::alloc::{AllocError, Global};
+use std::marker::Model;
+
+/// A list of texts that only grows.
+#[derive(Drop)]
+pub(crate) struct Texts {
+    codes: Vec<u32>,
+    spans: Vec<Span>,
+}
+
+/// Where a text begins and ends.
+#[derive(Clone, Copy, Drop)]
+pub(crate) struct Span {
+    start: usize,
+    end: usize,
+}
+
+impl Model for Texts {
+    ghost use Rattle.std.specs.Prelude.{List, ℕ, length, map};
+
+    ghost Value = { List (List ℕ) };
+
+    ghost use Rattle.nfg_segment.specs.Kept.{spanned, AreWithin};
+
+    ghost view = { λ t. map (spanned t.codes.items) t.spans.items };
+
+    ghost invariant = { λ t. AreWithin (length t.codes.items) t.spans.items };
+}
+
+impl Texts {
+    pub(crate) fn new(alloc: Global) -> Texts
+        ensures { result ≡ [] }
+    {
+        Texts {
+            codes: Vec::new(alloc),
+            spans: Vec::new(alloc),
+        }
+    }
+
+    pub(crate) fn len(&self) -> usize
+        ensures { result ≡ length self.now }
+    {
+        self.spans.len()
+    }
+
+    pub(crate) fn get(&self, k: usize) -> &[u32]
+        requires { k < length self.now }
+        ensures { result.now ≡ slice_index_or self.now k [] }
+    {
+        part(&self.codes, &self.spans, k)
+    }
+
+    pub(crate) fn push(&mut self, text: &[char]) -> Result<(), AllocError>
+        ensures pushed { OnOk result (self.new ≡ self.old ++ text.now ∷ []) }
+        ensures grew { (more : List (List ℕ)) × (self.new ≡ self.old ++ more) }
+    {
+        let start = self.codes.len();
+        extend(&mut self.codes, text)?;
+        let end = self.codes.len();
+        self.spans.push(Span { start, end })?;
+        Ok(())
+    }
+}
+
+/// The part that a span covers.
+fn part<'a>(codes: &'a [u32], spans: &[Span], k: usize) -> &'a [u32]
+    requires within { AreWithin (length codes.now) spans.now }
+    requires place { k < length spans.now }
+    ensures { result.now ≡ slice_index_or (map (spanned codes.now) spans.now) k [] }
+{
+    let start = spans[k].start;
+    let end = spans[k].end;
+    &codes[start..end]
+}
+
+/// Adds a text at the end, or its front where memory is wanting.
+fn extend(codes: &mut Vec<u32>, text: &[char]) -> Result<(), AllocError>
+    ensures all { OnOk result (codes.new.items ≡ codes.old.items ++ text.now) }
+    ensures some { (more : List ℕ) × (codes.new.items ≡ codes.old.items ++ more) }
+{
+    codes.reserve(text.len())?;
+    for c in text {
+        codes.push(*c as u32)?;
+    }
+    Ok(())
+}
