@@ -1,13 +1,13 @@
 -- Lemmas on ranges of a repeated list.
-use Rattle.std.proofs.Common.{◌≡◌, ℕ, zero, suc, ◌+◌, ◌-◌, ◌*◌, ◌/◌, ◌%◌, ◌<◌, ◌≤◌, inl, inr, min, List, [], ◌∷◌, ◌++◌, length, take, drop, refl, ap, ap₂, sym, ◌∙◌, arith, append_assoc, length-drop}
-use Rattle.std.proofs.lemmas.List.{append-nil, drop-drop, drop-append-le, take-append-le, take_all}
+use Rattle.std.proofs.Common.{◌≡◌, ℕ, zero, suc, ◌+◌, ◌-◌, ◌*◌, ◌/◌, ◌%◌, ◌<◌, ◌≤◌, inl, inr, List, ◌++◌, length, take, drop, refl, ap, ap₂, sym, ◌∙◌, arith, length-drop}
+use Rattle.std.proofs.lemmas.List.{drop-drop, drop-append-le, take-append-le, take_all}
 use Rattle.std.proofs.lemmas.Bool.{cases_lt}
 use Rattle.std.proofs.lemmas.Nat.{div-add-mod', mod_below, div_below}
 use Rattle.std.proofs.Math.Nat.{mul-le-mul_left}
 use Rattle.std.specs.Prelude.{slice_range}
 use Rattle.std.specs.List.{repeat}
 use Rattle.nfg_strand.proofs.Ranges.{slice_range-split}
-use Rattle.nfg_strand.proofs.Repeats.{length-repeat, drop-repeat, take-repeat, repeat-one}
+use Rattle.nfg_strand.proofs.Repeats.{drop-repeat, take-repeat, repeat-one}
 
 -- the product that does not reach a bound has a smaller factor
 pub factor_lt : (m q t : ℕ) → m * q < m * t → q < t

@@ -1,5 +1,5 @@
 -- Worked rows of pieces. A piece is written here as its length, its repetitions and its bits: 3x4/8.
-use Rattle.std.proofs.Common.{◌≡◌, ℕ, Bool, true, false, List, [], ◌∷◌, ◌++◌, replicate, refl}
+use Rattle.std.proofs.Common.{◌≡◌, ℕ, true, false, List, [], ◌∷◌, ◌++◌, replicate, refl}
 use Rattle.std.specs.Prelude.{ℤ, pos, negsuc}
 use Rattle.nfg_strand.specs.declared.piece.Piece.{Piece}
 use Rattle.nfg_strand.specs.Pieces.{flat_piece, clipped, joined, repeat_pieces, at_most_64, span}

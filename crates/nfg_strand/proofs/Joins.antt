@@ -1,14 +1,13 @@
 -- Lemmas on strands in a row and repeated.
-use Rattle.std.proofs.Common.{◌≡◌, ℕ, zero, suc, ◌+◌, ◌-◌, ◌*◌, ◌<◌, ◌≤◌, List, [], ◌∷◌, ◌++◌, length, get_or, drop, map, refl, ap, ap₂, sym, ◌∙◌, arith}
-use Rattle.std.proofs.lemmas.List.{append-nil, nil_from_length}
+use Rattle.std.proofs.Common.{◌≡◌, ℕ, zero, suc, ◌*◌, ◌<◌, List, [], ◌∷◌, length, get_or, refl, ap, sym, arith}
+use Rattle.std.proofs.lemmas.List.{append-nil}
 use Rattle.std.specs.Prelude.{ℤ}
 use Rattle.std.specs.List.{repeat, list_all}
 use Rattle.nfg_block.specs.Lanes.{is_narrow_grapheme}
 use Rattle.nfg_strand.specs.declared.piece.Piece.{Piece}
 use Rattle.nfg_strand.specs.Pieces.{repeat_pieces}
-use Rattle.nfg_strand.specs.Strand.{Repetition, graphemes, graphemes_of, pieces, piece_of, flat_strand}
-use Rattle.nfg_strand.proofs.Places.{first_and_rest}
-use Rattle.nfg_strand.proofs.Repeats.{repeat-repeat, repeat-one, length-repeat}
+use Rattle.nfg_strand.specs.Strand.{Repetition, graphemes, graphemes_of}
+use Rattle.nfg_strand.proofs.Repeats.{repeat-repeat}
 
 -- one strand alone
 pub only_one : (strands : List Repetition) (s : Repetition) → length strands ≡ 1 → s ≡ get_or strands 0 s → strands ≡ s ∷ []

@@ -1,10 +1,9 @@
 -- Lemmas on ranges of lists.
-use Rattle.std.proofs.Common.{◌≡◌, ℕ, zero, suc, ◌+◌, ◌-◌, ◌<◌, ◌≤◌, ◌⊎◌, inl, inr, min, List, [], ◌∷◌, ◌++◌, length, get_or, take, drop, refl, ap, ap₂, sym, ◌∙◌, arith, length-append, length-take, length-drop, length-take-le, get_or-drop, get_or-take, append_assoc}
-use Rattle.std.proofs.lemmas.List.{append-nil, same_lists, get_or_append_left, get_or-append_right, take-append-le, drop-append-le, drop_all, take_all, drop-drop, drop-take, take-take, take_min, drop_min, take-append-drop, take_at}
+use Rattle.std.proofs.Common.{◌≡◌, ℕ, zero, suc, ◌+◌, ◌-◌, ◌<◌, ◌≤◌, min, List, [], ◌∷◌, ◌++◌, length, get_or, take, drop, refl, ap, ap₂, sym, ◌∙◌, arith, length-drop, length-take-le, get_or-drop, get_or-take}
+use Rattle.std.proofs.lemmas.List.{drop-drop, drop-take, take-take, take_min, drop_min, take-append-drop, take_at}
 use Rattle.std.proofs.lemmas.Slice.{take-put_mid}
 use borrow.Rule.Slice.PartMut.{put_mid}
 use Rattle.std.proofs.Math.Seq.{take-append-add}
-use Rattle.std.proofs.lemmas.Bool.{cases_lt}
 use Rattle.std.specs.Prelude.{slice_range, slice_get, Some}
 
 module _ {A : Type 0} where

@@ -1,9 +1,8 @@
 -- Lemmas on repeated lists.
-use Rattle.std.proofs.Common.{◌≡◌, ℕ, zero, suc, ◌+◌, ◌-◌, ◌*◌, ◌<◌, ◌≤◌, List, [], ◌∷◌, ◌++◌, length, get_or, take, drop, refl, ap, ap₂, sym, ◌∙◌, arith, length-append, append_assoc}
+use Rattle.std.proofs.Common.{◌≡◌, ℕ, zero, suc, ◌+◌, ◌-◌, ◌*◌, ◌≤◌, List, [], ◌++◌, length, take, drop, refl, ap, sym, ◌∙◌, arith, length-append, append_assoc}
 use Rattle.std.specs.List.{repeat}
-use Rattle.std.proofs.lemmas.List.{append-nil, take_at, drop_at, drop_all}
+use Rattle.std.proofs.lemmas.List.{append-nil, drop_all}
 use Rattle.std.proofs.Math.Seq.{drop-append-add, take-append-add}
-use Rattle.nfg_strand.proofs.Ranges.{drop-append, take-append}
 
 module _ {A : Type 0} where
   pub length-repeat : (n : ℕ) (xs : List A) → length (repeat n xs) ≡ length xs * n

@@ -1,5 +1,5 @@
 -- Strands: a part of a block, repeated (this project's own, after the strings of MoarVM).
-use Rattle.std.specs.Prelude.{ℕ, ℤ, ◌+◌, ◌-◌, ◌*◌, ◌^◌, ◌<◌, ◌≤◌, Bool, List, [], ◌∷◌, ◌++◌, length, map, drop}
+use Rattle.std.specs.Prelude.{ℕ, ℤ, ◌-◌, ◌*◌, ◌^◌, ◌<◌, ◌≤◌, Bool, List, [], ◌∷◌, ◌++◌, length, map, drop}
 use Rattle.std.specs.List.{repeat, flat_map, list_all}
 use Rattle.nfg_block.specs.Lanes.{is_narrow_grapheme}
 use Rattle.nfg_strand.specs.declared.piece.Piece.{Piece}

@@ -1,5 +1,5 @@
 -- each strand gives its part, and the others the rest of the clip
-use Rattle.std.proofs.Common.{◌≡◌, ◌+◌, ◌-◌, ◌<◌, ◌≤◌, ◌++◌, min, length, drop, ap, ap₂, sym, ◌∙◌, arith, append_assoc}
+use Rattle.std.proofs.Common.{◌≡◌, ◌+◌, ◌-◌, ◌++◌, min, drop, ap, ap₂, sym, ◌∙◌, arith, append_assoc}
 use Rattle.std.specs.Prelude.{slice_range}
 use Rattle.nfg_strand.specs.Pieces.{clipped, clipped_piece}
 use Rattle.nfg_strand.specs.Strand.{graphemes, pieces, graphemes_of, piece_of}

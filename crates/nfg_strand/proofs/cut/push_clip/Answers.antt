@@ -1,9 +1,8 @@
 -- a range of a repeated unit: a part of one repetition, or an end, whole ones and a start
-use Rattle.std.proofs.Common.{◌≡◌, ◌+◌, ◌-◌, ◌*◌, ◌/◌, ◌%◌, ◌<◌, ◌≤◌, ◌++◌, length, take, drop, ap, sym, ◌∙◌, arith, append_assoc}
+use Rattle.std.proofs.Common.{◌+◌, ◌-◌, ◌*◌, ◌/◌, ◌++◌, take, drop, ap, ◌∙◌, arith, append_assoc}
 use Rattle.std.proofs.lemmas.Result.{on_ok_weaker}
-use Rattle.std.specs.Prelude.{slice_range}
 use Rattle.std.specs.List.{repeat}
-use Rattle.nfg_strand.specs.Strand.{graphemes, graphemes_of}
+use Rattle.nfg_strand.specs.Strand.{graphemes}
 use Rattle.nfg_strand.proofs.Clips.{in_one, slice_range-in_one, slice_range-long}
 use Rattle.nfg_strand.proofs.cut.push_clip.Goals as goal
 

@@ -1,5 +1,5 @@
 -- nothing is added of nothing
-use Rattle.std.proofs.Common.{◌≡◌, ◌++◌, [], take, drop, ap, sym, ◌∙◌}
+use Rattle.std.proofs.Common.{◌++◌, take, drop, ap, sym, ◌∙◌}
 use Rattle.std.proofs.lemmas.List.{append-nil}
 use Rattle.std.specs.List.{repeat}
 use Rattle.nfg_strand.specs.Strand.{graphemes}

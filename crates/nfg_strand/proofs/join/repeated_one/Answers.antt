@@ -1,5 +1,5 @@
 -- one strand is repeated as it is, and more are one flat strand first
-use Rattle.std.proofs.Common.{◌≡◌, ◌*◌, ◌<◌, length, ap, sym, ◌∙◌, arith}
+use Rattle.std.proofs.Common.{◌≡◌, ◌*◌, length, ap, sym, ◌∙◌, arith}
 use Rattle.std.proofs.lemmas.Result.{IfOk-weaker}
 use Rattle.std.specs.List.{repeat}
 use Rattle.nfg_strand.specs.Strand.{graphemes, graphemes_of}

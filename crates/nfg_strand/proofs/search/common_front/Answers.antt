@@ -1,5 +1,5 @@
 -- what is compared is the front of what is left of each
-use Rattle.std.proofs.Common.{◌≡◌, ◌+◌, ◌-◌, ◌<◌, ◌≤◌, take, drop, length, ap, ap₂, sym, ◌∙◌, arith, rules, length-drop, length-take-le, add_assoc}
+use Rattle.std.proofs.Common.{◌≡◌, ◌+◌, ◌-◌, take, drop, length, ap, ap₂, sym, ◌∙◌, arith, length-drop, length-take-le, add_assoc}
 use Rattle.std.proofs.lemmas.List.Sums.{common_prefix_len-le}
 use Rattle.std.proofs.lemmas.List.{drop-drop}
 use Rattle.std.specs.List.{common_prefix_len}

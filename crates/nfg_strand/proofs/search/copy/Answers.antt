@@ -1,5 +1,5 @@
 -- the front of what is left goes to the place
-use Rattle.std.proofs.Common.{◌≡◌, ◌+◌, ◌-◌, ◌<◌, ◌≤◌, ◌++◌, take, drop, length, ap, ap₂, sym, ◌∙◌, arith, rules, length-drop, add_assoc}
+use Rattle.std.proofs.Common.{◌≡◌, ◌+◌, ◌-◌, ◌++◌, take, drop, length, ap, sym, ◌∙◌, arith, rules, length-drop, add_assoc}
 use Rattle.std.proofs.lemmas.List.{drop-drop}
 use Rattle.nfg_strand.specs.Strand.{graphemes}
 use Rattle.nfg_strand.proofs.Ranges.{take-put_mid_front}

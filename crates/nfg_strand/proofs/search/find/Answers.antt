@@ -1,6 +1,6 @@
 -- what is looked through is the front of what is left
-use Rattle.std.proofs.Common.{◌≡◌, ◌+◌, ◌<◌, ◌≤◌, take, drop, length, ap, sym, ◌∙◌, arith, rules}
-use Rattle.std.specs.Prelude.{Some, None, ℤ, slice_range}
+use Rattle.std.proofs.Common.{◌≡◌, take, drop, ap, sym, ◌∙◌, arith, rules}
+use Rattle.std.specs.Prelude.{ℤ, slice_range}
 use Rattle.std.specs.List.{position_from}
 use Rattle.std.specs.Ordering.{int_eq}
 use Rattle.std.proofs.lemmas.List.{drop-drop}

@@ -1,5 +1,5 @@
 -- a place is a count of graphemes of the first strand, and the new place as many more
-use Rattle.std.proofs.Common.{◌≡◌, ◌+◌, ◌-◌, ◌*◌, ◌<◌, length, drop, ap, ap₂, sym, ◌∙◌, arith, rules}
+use Rattle.std.proofs.Common.{◌+◌, ◌-◌, ◌*◌, ◌<◌, length, drop, ap, ap₂, sym, ◌∙◌, arith, rules}
 use Rattle.std.proofs.lemmas.List.{take_rest}
 use Rattle.nfg_strand.specs.Strand.{graphemes}
 use Rattle.nfg_strand.proofs.Places.{drop-left_of, drop-left_of-past, length-left_of}

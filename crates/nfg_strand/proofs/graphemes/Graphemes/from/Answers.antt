@@ -1,5 +1,5 @@
 -- each strand that is passed over is skipped whole
-use Rattle.std.proofs.Common.{◌≡◌, ◌*◌, ◌<◌, length, ap, sym, ◌∙◌, arith}
+use Rattle.std.proofs.Common.{◌∙◌, arith}
 use Rattle.nfg_strand.proofs.Places.{length-graphemes-past, drop-graphemes-next}
 use Rattle.nfg_strand.proofs.graphemes.Graphemes.from.Goals as goal
 

@@ -1,5 +1,5 @@
 -- each unit is its block from `start` on, up to `end`
-use Rattle.std.proofs.Common.{◌+◌, ◌<◌, ap, ap₂, ◌∙◌, arith}
+use Rattle.std.proofs.Common.{◌+◌, ap, ap₂, ◌∙◌, arith}
 use Rattle.std.specs.Prelude.{slice_range}
 use Rattle.std.specs.List.{common_prefix_len}
 use Rattle.std.specs.Ordering.{int_eq}

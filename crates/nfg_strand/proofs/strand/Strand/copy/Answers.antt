@@ -1,5 +1,5 @@
 -- the unit is the block from `start` on, up to `end`
-use Rattle.std.proofs.Common.{◌+◌, ◌<◌, length, ap, ◌∙◌, arith}
+use Rattle.std.proofs.Common.{◌+◌, length, ap, ◌∙◌, arith}
 use Rattle.std.specs.Prelude.{slice_range}
 use Rattle.nfg_strand.proofs.Ranges.{unit_part}
 use Rattle.nfg_strand.proofs.strand.Strand.copy.Goals as goal

@@ -1,6 +1,6 @@
 -- the unit is the block from `start` on, up to `end`, and the place counts from the place in the unit
-use Rattle.std.proofs.Common.{◌≡◌, ◌+◌, ◌<◌, take, drop, ap, sym, ◌∙◌, arith, rules}
-use Rattle.std.specs.Prelude.{slice_range, Option, Some, None}
+use Rattle.std.proofs.Common.{◌≡◌, ◌+◌, ap, sym, ◌∙◌, arith, rules}
+use Rattle.std.specs.Prelude.{slice_range, Some, None}
 use Rattle.std.specs.List.{position_from}
 use Rattle.std.specs.Ordering.{int_eq}
 use Rattle.nfg_strand.proofs.Ranges.{unit_part}

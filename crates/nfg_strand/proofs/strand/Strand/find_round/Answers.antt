@@ -1,6 +1,6 @@
 -- the first part comes before the second
-use Rattle.std.proofs.Common.{◌≡◌, ◌+◌, ◌<◌, take, drop, length, ap, sym, ◌∙◌, arith, rules, length-take-le, length-drop}
-use Rattle.std.specs.Prelude.{Option, Some, None}
+use Rattle.std.proofs.Common.{◌≡◌, ◌+◌, take, drop, length, ap, sym, ◌∙◌, arith, rules, length-take-le, length-drop}
+use Rattle.std.specs.Prelude.{Some, None}
 use Rattle.std.specs.List.{position_from}
 use Rattle.std.specs.Ordering.{int_eq}
 use Rattle.nfg_strand.proofs.Ranges.{length-slice_range}

@@ -1,5 +1,5 @@
 -- the part of the unit is one of the block
-use Rattle.std.proofs.Common.{◌+◌, ◌<◌, ap, ◌∙◌, arith}
+use Rattle.std.proofs.Common.{◌+◌, ap, ◌∙◌, arith}
 use Rattle.std.specs.Prelude.{slice_range}
 use Rattle.nfg_strand.proofs.Ranges.{unit_part}
 use Rattle.nfg_strand.proofs.strand.Strand.part.Goals as goal

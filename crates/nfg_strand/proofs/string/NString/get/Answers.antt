@@ -1,8 +1,8 @@
 -- the first of what is left from the place on
-use Rattle.std.proofs.Common.{◌≡◌, ◌∷◌, ◌<◌, drop, length, ap, sym, ◌∙◌, arith, rules, length-drop}
+use Rattle.std.proofs.Common.{drop, length, ap, sym, ◌∙◌, arith, rules, length-drop}
 use Rattle.std.proofs.lemmas.Int.{to_z-of_z}
 use Rattle.std.specs.Int.{w32}
-use Rattle.std.specs.Prelude.{slice_get, Some}
+use Rattle.std.specs.Prelude.{Some}
 use Rattle.nfg_strand.specs.Strand.{graphemes}
 use Rattle.nfg_strand.proofs.Ranges.{slice_get-drop}
 use Rattle.nfg_strand.proofs.string.NString.get.Goals as goal

@@ -1,5 +1,5 @@
 -- the graphemes n times in a row are n times as many
-use Rattle.std.proofs.Common.{◌≡◌, ◌*◌, length, ap, sym, ◌∙◌, rules}
+use Rattle.std.proofs.Common.{◌*◌, length, ap, sym, ◌∙◌}
 use Rattle.nfg_strand.specs.Strand.{graphemes}
 use Rattle.nfg_strand.proofs.Repeats.{length-repeat}
 use Rattle.nfg_strand.proofs.string.NString.repeated.Goals as goal
