@@ -8,7 +8,7 @@ ghost use Rattle.nfg_strand.specs.Strand.{graphemes_of, piece_of, graphemes, pie
 use crate::strand::Strand;
 use std::alloc::{AllocError, Global};
 
-/// Adds the `count` graphemes from place `at` of a strand's unit, `times` times in a row, if that is any.
+/// Adds `count` graphemes of a strand's unit from place `at` on, `times` times, if that is any.
 fn push_part(
     strand: &Strand,
     at: usize,
@@ -33,7 +33,8 @@ fn push_part(
     Ok(())
 }
 
-/// Adds the part `from..until` of a strand: the end of a repetition, whole repetitions, and the start of one.
+/// Adds the part `from..until` of a strand: the end of a repetition, whole ones, and the start of
+/// one.
 fn push_clip(
     strand: &Strand,
     from: u64,
@@ -75,8 +76,10 @@ pub(crate) fn clip(
 ) -> Result<Vec<Strand>, AllocError>
     requires ordered { start ≤ end }
     requires inside { end ≤ length (graphemes strands.now) }
-    ensures graphemes { IfOk result (λ parts. graphemes parts.items ≡ slice_range (graphemes strands.now) start end) }
-    ensures pieces { IfOk result (λ parts. pieces parts.items ≡ clipped (pieces strands.now) start end) }
+    ensures graphemes { IfOk result (λ parts. graphemes parts.items
+        ≡ slice_range (graphemes strands.now) start end) }
+    ensures pieces { IfOk result (λ parts. pieces parts.items
+        ≡ clipped (pieces strands.now) start end) }
 {
     let mut parts = Vec::new(alloc);
     let mut from = start;

@@ -133,7 +133,8 @@ impl<'a> Graphemes<'a> {
         requires other_within { limit ≤ length other.now }
         ensures progress { 0 < result.0 }
         ensures limited { result.0 ≤ limit }
-        ensures common { result.1 ≡ common_prefix_len int_eq (take result.0 self.now) (take result.0 other.now) }
+        ensures common { result.1
+            ≡ common_prefix_len int_eq (take result.0 self.now) (take result.0 other.now) }
     {
         let strand = &self.strands[0];
         let other_strand = &other.strands[0];

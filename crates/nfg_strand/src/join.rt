@@ -79,7 +79,7 @@ fn shared(alloc: Global, strands: &[Strand]) -> Result<Vec<Strand>, AllocError>
     Ok(same)
 }
 
-/// The strands, or the flat strand of their graphemes, which are `len`, where they are more than 64.
+/// The strands, or one flat strand of their `len` graphemes where they are more than 64.
 pub(crate) fn within_limit(
     alloc: Global,
     strands: Vec<Strand>,
@@ -99,7 +99,8 @@ pub(crate) fn within_limit(
     }
 }
 
-/// The strands of both in a row, which have `len` graphemes, or one flat strand where they are more than 64.
+/// The strands of both in a row, or one flat strand of their `len` graphemes where they are more
+/// than 64.
 pub(crate) fn both(
     alloc: Global,
     first: &[Strand],
@@ -108,7 +109,8 @@ pub(crate) fn both(
 ) -> Result<Vec<Strand>, AllocError>
     requires counted { len ≡ length (graphemes first.now) + length (graphemes second.now) }
     requires bounded { len ≤ 2 ^ 40 }
-    ensures graphemes { IfOk result (λ both. graphemes both.items ≡ graphemes first.now ++ graphemes second.now) }
+    ensures graphemes { IfOk result (λ both. graphemes both.items
+        ≡ graphemes first.now ++ graphemes second.now) }
     ensures pieces { IfOk result (λ both. pieces both.items
         ≡ at_most_64 (graphemes first.now ++ graphemes second.now)
         (joined (pieces first.now) (pieces second.now))) }
@@ -139,7 +141,7 @@ fn repeated_one(alloc: Global, strands: &[Strand], len: u64, n: u64) -> Result<S
     }
 }
 
-/// The strands `n` times in a row, in one strand where that is more than once. They have `len` graphemes.
+/// The strands, of `len` graphemes, `n` times in a row: in one strand where that is more than once.
 pub(crate) fn repeated(
     alloc: Global,
     strands: &[Strand],
@@ -149,7 +151,8 @@ pub(crate) fn repeated(
     requires few { length strands.now ≤ 64 }
     requires counted { len ≡ length (graphemes strands.now) }
     requires bounded { len * n ≤ 2 ^ 40 }
-    ensures graphemes { IfOk result (λ many. graphemes many.items ≡ repeat n (graphemes strands.now)) }
+    ensures graphemes { IfOk result (λ many. graphemes many.items
+        ≡ repeat n (graphemes strands.now)) }
     ensures pieces { IfOk result (λ many. pieces many.items
         ≡ repeat_pieces (graphemes strands.now) (pieces strands.now) n) }
     ensures few { IfOk result (λ many. length many.items ≤ 64) }

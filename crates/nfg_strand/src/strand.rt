@@ -179,7 +179,7 @@ impl Strand {
         }
     }
 
-    /// How many of the `count` graphemes from place `at` on are those of the other unit from its place on.
+    /// How many graphemes the units have in common from the two places on, among `count`.
     pub(crate) fn common_front(
         &self,
         at: usize,

@@ -45,7 +45,7 @@ impl NString {
         }
     }
 
-    /// The string of these graphemes over a new block, in one piece, or in none where there are none.
+    /// The string of these graphemes over a new block: in one piece, or in none where it is empty.
     pub fn from_graphemes(alloc: Global, g: &[i32]) -> Result<NString, AllocError>
         requires { length g.now ≤ 2 ^ 40 }
         ensures graphemes { IfOk result (λ s. s.graphemes ≡ g.now) }
@@ -141,8 +141,10 @@ impl NString {
     pub fn clip(&self, alloc: Global, start: u64, end: u64) -> Result<NString, AllocError>
         requires ordered { start ≤ end }
         requires inside { end ≤ length self.now.graphemes }
-        ensures graphemes { IfOk result (λ s. s.graphemes ≡ slice_range self.now.graphemes start end) }
-        ensures pieces { IfOk result (λ s. s.pieces ≡ at_most_64 s.graphemes (clipped self.now.pieces start end)) }
+        ensures graphemes { IfOk result (λ s. s.graphemes
+            ≡ slice_range self.now.graphemes start end) }
+        ensures pieces { IfOk result (λ s. s.pieces
+            ≡ at_most_64 s.graphemes (clipped self.now.pieces start end)) }
     {
         let len = end - start;
         let parts = cut::clip(alloc, self.strands.as_slice(), start, end)?;
@@ -156,7 +158,8 @@ impl NString {
     /// become more than 64. On a refusal the string is unchanged.
     pub fn append(&mut self, alloc: Global, other: &NString) -> Result<(), AllocError>
         requires { length self.old.graphemes + length other.now.graphemes ≤ 2 ^ 40 }
-        ensures graphemes { OnOk result (self.new.graphemes ≡ self.old.graphemes ++ other.now.graphemes) }
+        ensures graphemes { OnOk result (self.new.graphemes
+            ≡ self.old.graphemes ++ other.now.graphemes) }
         ensures pieces { OnOk result (self.new.pieces
             ≡ at_most_64 self.new.graphemes (joined self.old.pieces other.now.pieces)) }
         ensures unchanged { OnErr result (self.new ≡ self.old) }
@@ -178,7 +181,8 @@ impl NString {
     pub fn repeated(&self, alloc: Global, n: u64) -> Result<NString, AllocError>
         requires { length self.now.graphemes * n ≤ 2 ^ 40 }
         ensures graphemes { IfOk result (λ s. s.graphemes ≡ repeat n self.now.graphemes) }
-        ensures pieces { IfOk result (λ s. s.pieces ≡ repeat_pieces self.now.graphemes self.now.pieces n) }
+        ensures pieces { IfOk result (λ s. s.pieces
+            ≡ repeat_pieces self.now.graphemes self.now.pieces n) }
     {
         Ok(NString {
             strands: join::repeated(alloc, self.strands.as_slice(), self.len, n)?,
