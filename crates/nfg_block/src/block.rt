@@ -68,7 +68,7 @@ fn index_from(from: usize, count: usize, at: usize) -> Option<usize>
 }
 
 impl Block {
-    /// The only call of a block that takes memory.
+    /// The block of these graphemes, or want of memory. No other call of a block takes any.
     pub fn from_graphemes(alloc: Global, graphemes: &[i32]) -> Result<Block, AllocError>
         ensures { IfOk result (λ block. block ≡ block_of graphemes.now) }
     {
@@ -134,7 +134,9 @@ impl Block {
     ) -> usize
         requires left { start + count ≤ length self.now.list }
         requires right { other_start + count ≤ length other.now.list }
-        ensures { result ≡ common_prefix_len int_eq (slice_range self.now.list start (start + count)) (slice_range other.now.list other_start (other_start + count)) }
+        ensures { result ≡ common_prefix_len int_eq
+            (slice_range self.now.list start (start + count))
+            (slice_range other.now.list other_start (other_start + count)) }
     {
         match &self.cells {
             Cells::Narrow(a) => {
@@ -158,7 +160,9 @@ impl Block {
     pub fn slice_equal(&self, start: usize, other: &Block, other_start: usize, count: usize) -> bool
         requires left { start + count ≤ length self.now.list }
         requires right { other_start + count ≤ length other.now.list }
-        ensures { IsTrue result ↔ (slice_range self.now.list start (start + count) ≡ slice_range other.now.list other_start (other_start + count)) }
+        ensures { IsTrue result ↔
+            (slice_range self.now.list start (start + count)
+            ≡ slice_range other.now.list other_start (other_start + count)) }
     {
         self.common_front(start, other, other_start, count) == count
     }

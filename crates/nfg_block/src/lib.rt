@@ -2,5 +2,7 @@
 #![tactic(auto)]
 
 mod block;
+#[cfg(test)]
+mod tests;
 
 pub use block::Block;

@@ -1,5 +1,5 @@
 -- Worked rows of the definitions that the kernels cite.
-use Rattle.std.proofs.Common.{◌≡◌, ℕ, ℤ, pos, negsuc, Bool, true, false, List, [], ◌∷◌, int_eq, refl}
+use Rattle.std.proofs.Common.{◌≡◌, pos, negsuc, true, false, [], ◌∷◌, int_eq, refl}
 use Rattle.std.specs.Char.{is_ascii}
 use Rattle.std.specs.List.{common_prefix_len, list_all, position_or_len, prefix_len}
 use Rattle.nfg_lanes.specs.Lanes.{common_suffix_len, is_narrow_grapheme}

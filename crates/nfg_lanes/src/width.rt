@@ -7,14 +7,23 @@ ghost use Rattle.nfg_lanes.specs.Lanes.{is_narrow_grapheme};
 use crate::block::{LANES32, read8, read32};
 use std::simd::prelude::*;
 
+/// Elements of a block of `narrow_fits`.
+const FITS_LANES: usize = 32;
+
+// The least and the greatest of each four lanes tell whether all four are narrow.
 #[inline(always)]
 fn fits_in(a: &[i32], at: usize) -> bool
-    requires { at + LANES32 ≤ length a.now }
-    ensures { result ≡ list_all is_narrow_grapheme (chunk at LANES32 a.now) }
+    requires { at + FITS_LANES ≤ length a.now }
+    ensures { result ≡ list_all is_narrow_grapheme (chunk at FITS_LANES a.now) }
 {
-    read32(a, at, LANES32);
-    let lanes = i32x16::from_slice(&a[at..]);
-    let wide = lanes.simd_lt(i32x16::splat(-1)) | lanes.simd_gt(i32x16::splat(127));
+    read32(a, at, FITS_LANES);
+    let first = i32x8::from_slice(&a[at..]);
+    let second = i32x8::from_slice(&a[at + 8..]);
+    let third = i32x8::from_slice(&a[at + 16..]);
+    let fourth = i32x8::from_slice(&a[at + 24..]);
+    let least = first.simd_min(second).simd_min(third.simd_min(fourth));
+    let greatest = first.simd_max(second).simd_max(third.simd_max(fourth));
+    let wide = least.simd_lt(i32x8::splat(-1)) | greatest.simd_gt(i32x8::splat(127));
     wide.to_bitmask() == 0
 }
 
@@ -22,13 +31,13 @@ fn fits_in(a: &[i32], at: usize) -> bool
 pub fn narrow_fits(a: &[i32]) -> bool
     ensures { result ≡ list_all is_narrow_grapheme a.now }
 {
-    let blocks = a.len() / LANES32;
+    let blocks = a.len() / FITS_LANES;
     for block in 0..blocks {
-        if !fits_in(a, block * LANES32) {
+        if !fits_in(a, block * FITS_LANES) {
             return false;
         }
     }
-    for at in blocks * LANES32..a.len() {
+    for at in blocks * FITS_LANES..a.len() {
         if a[at] < -1 || a[at] > 127 {
             return false;
         }

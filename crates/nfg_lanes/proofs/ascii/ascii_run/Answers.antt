@@ -1,4 +1,4 @@
-use Rattle.std.proofs.Common.{arith, ◌*◌, ◌+◌}
+use Rattle.std.proofs.Common.{arith, ◌*◌}
 use Rattle.std.specs.Char.{is_ascii}
 use Rattle.nfg_lanes.proofs.RunLemmas.{run_ends, run_fills}
 use Rattle.nfg_lanes.proofs.ascii.ascii_run.Goals as goal

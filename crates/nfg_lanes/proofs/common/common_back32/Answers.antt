@@ -1,4 +1,4 @@
-use Rattle.std.proofs.Common.{◌≡◌, ◌-◌, arith, refl, rules, sym, ◌∙◌, length, get_or, reverse, int_eq, ℤ, pos, w32, true, false, FitsSigned}
+use Rattle.std.proofs.Common.{◌≡◌, ◌-◌, arith, refl, rules, sym, ◌∙◌, length, get_or, reverse, int_eq, pos, w32, true, false, FitsSigned}
 use Rattle.std.proofs.lemmas.Bool.{eq-eqb, ne_eqb}
 use Rattle.std.proofs.lemmas.Bool.Decides.{Decides-int_eq}
 use Rattle.std.proofs.lemmas.List.{length-reverse}

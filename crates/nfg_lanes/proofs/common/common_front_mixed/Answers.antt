@@ -1,4 +1,4 @@
-use Rattle.std.proofs.Common.{int_eq, arith, ◌*◌, ◌+◌}
+use Rattle.std.proofs.Common.{int_eq, arith, ◌*◌}
 use Rattle.nfg_lanes.proofs.FrontLemmas.{front_complete, front_ends, front_fills}
 use Rattle.nfg_lanes.proofs.common.common_front_mixed.Goals as goal
 

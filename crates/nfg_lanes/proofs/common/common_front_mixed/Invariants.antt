@@ -1,4 +1,4 @@
-use Rattle.std.proofs.Common.{◌≤◌, ◌*◌, ◌-◌, length, int_eq}
+use Rattle.std.proofs.Common.{◌*◌, ◌-◌, int_eq}
 use Rattle.nfg_lanes.proofs.FrontLemmas.{FrontsTo}
 use Rattle.nfg_lanes.proofs.common.common_front_mixed.Given as goal
 

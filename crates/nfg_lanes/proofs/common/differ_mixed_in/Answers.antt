@@ -1,4 +1,4 @@
-use Rattle.std.proofs.Common.{ℕ, ◌<◌, length, get_or, arith, refl, w8, w32, pos, FitsSigned}
+use Rattle.std.proofs.Common.{get_or, arith, refl, w8, w32, pos, FitsSigned}
 use Rattle.std.proofs.lemmas.Simd.{length-chunk}
 use Rattle.nfg_lanes.proofs.MaskLemmas.{in_block, stops_at_other}
 use Rattle.nfg_lanes.proofs.WidthLemmas.{cast_bits, cast_fits, fits_wider}

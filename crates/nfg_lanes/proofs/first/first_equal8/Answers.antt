@@ -1,4 +1,4 @@
-use Rattle.std.proofs.Common.{ℤ, Bool, not, int_eq, arith, w8, to_z, of_z, ap, ◌∙◌, ◌*◌, ◌+◌}
+use Rattle.std.proofs.Common.{ℤ, Bool, not, int_eq, arith, w8, to_z, of_z, ap, ◌∙◌, ◌*◌}
 use Rattle.std.proofs.lemmas.Int.{to_z-of_z}
 use Rattle.std.specs.List.{position_or_len}
 use Rattle.nfg_lanes.proofs.RunLemmas.{run_ends, run_fills}

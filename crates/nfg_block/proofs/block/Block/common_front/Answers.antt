@@ -11,7 +11,7 @@ returns-in-Narrow-cells-2 c =
     let count = c.args.count in
     let left : a ≡ c.args.self.now.list = c.deref-in-Wide.ensures.value ∙ ap (λ v. (graphemes_of v).list) (sym c.in-Wide.is) ∙ ap (λ g. g.list) c.self.view_is in
     let right : b ≡ c.args.other.now.list =
-        c.deref-in-Narrow-cells-2.ensures.value ∙ ap (λ v. (graphemes_of v).list) (sym c.in-Narrow-cells-2.is) ∙ ap (λ g. g.list) c.other.view_is
+    c.deref-in-Narrow-cells-2.ensures.value ∙ ap (λ v. (graphemes_of v).list) (sym c.in-Narrow-cells-2.is) ∙ ap (λ g. g.list) c.other.view_is
     in
     let xs = take count (take (length a - c.args.start) (drop c.args.start a)) in
     let ys = take count (take (length b - c.args.other_start) (drop c.args.other_start b)) in

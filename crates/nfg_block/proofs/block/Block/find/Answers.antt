@@ -31,7 +31,7 @@ returns-in-Wide c =
     let count = c.args.until - i in
     let cells = c.deref-in-Wide.result.now in
     let list : cells ≡ c.args.self.now.list =
-        c.deref-in-Wide.ensures.value ∙ ap (λ v. (graphemes_of v).list) (sym c.in-Wide.is) ∙ ap (λ g. g.list) c.self.view_is
+    c.deref-in-Wide.ensures.value ∙ ap (λ v. (graphemes_of v).list) (sym c.in-Wide.is) ∙ ap (λ g. g.list) c.self.view_is
     in
     let room : i + count ≤ length cells = omega (arith, c.requires.ordered, c.requires.in_range, ap length list) in
     let at = c.first_equal32.ensures ∙ ap (λ x. position_or_len (λ y. int_eq y x) (take count (drop i cells))) (to_z-of_z w32 c.args.x c.ranges.x) in

@@ -1,0 +1,23 @@
+//! Times the crates of this repository, each beside a plain way to do the same work in the same run.
+#![tactic(auto)]
+
+use std::{env, io};
+
+mod blocks;
+mod lanes;
+mod plain;
+mod timing;
+
+// The first word after the program's name says what to time; with none, nothing is.
+fn main(rt: HostRuntime) -> io::Result<()> {
+    let mut words = env::args(&rt)?;
+    let _program = words.next();
+    match words.next() {
+        Some(word) => match word.as_str() {
+            "lanes" => lanes::report(&rt, rt.alloc()),
+            "blocks" => blocks::report(&rt, rt.alloc()),
+            _ => println!(rt; "No such subject: {word}"),
+        },
+        None => println!(rt; "Name what to time: lanes, blocks"),
+    }
+}

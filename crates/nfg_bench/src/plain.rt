@@ -1,0 +1,77 @@
+//! Plain loops, element by element, each of which ends at the first that tells.
+
+pub fn ascii_run(bytes: &[u8]) -> usize {
+    for at in 0..bytes.len() {
+        if bytes[at] >= 128 {
+            return at;
+        }
+    }
+    bytes.len()
+}
+
+pub fn first_equal8(a: &[i8], x: i8) -> usize {
+    for at in 0..a.len() {
+        if a[at] == x {
+            return at;
+        }
+    }
+    a.len()
+}
+
+pub fn first_equal32(a: &[i32], x: i32) -> usize {
+    for at in 0..a.len() {
+        if a[at] == x {
+            return at;
+        }
+    }
+    a.len()
+}
+
+pub fn common_front8(a: &[i8], b: &[i8]) -> usize {
+    let len = a.len().min(b.len());
+    for at in 0..len {
+        if a[at] != b[at] {
+            return at;
+        }
+    }
+    len
+}
+
+pub fn common_front32(a: &[i32], b: &[i32]) -> usize {
+    let len = a.len().min(b.len());
+    for at in 0..len {
+        if a[at] != b[at] {
+            return at;
+        }
+    }
+    len
+}
+
+pub fn common_front_mixed(a: &[i8], b: &[i32]) -> usize {
+    let len = a.len().min(b.len());
+    for at in 0..len {
+        if a[at] as i32 != b[at] {
+            return at;
+        }
+    }
+    len
+}
+
+pub fn common_back32(a: &[i32], b: &[i32]) -> usize {
+    let len = a.len().min(b.len());
+    for count in 0..len {
+        if a[a.len() - 1 - count] != b[b.len() - 1 - count] {
+            return count;
+        }
+    }
+    len
+}
+
+pub fn narrow_fits(a: &[i32]) -> bool {
+    for &x in a {
+        if x < -1 || x > 127 {
+            return false;
+        }
+    }
+    true
+}

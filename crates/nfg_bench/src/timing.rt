@@ -1,0 +1,80 @@
+//! Medians of repeated timings, and the line that is printed of them.
+use std::io;
+use std::rt::Clock;
+use std::time::Instant;
+
+/// How often each way is timed.
+const RUNS: usize = 401;
+
+/// The medians of two ways to do the same work, in nanoseconds, and how much they answered in all,
+/// which keeps the compiler from leaving work out.
+#[derive(Clone, Copy)]
+struct Timings {
+    fast: u64,
+    plain: u64,
+    answered: usize,
+}
+
+/// More than any timing, and small enough for what is computed from it.
+const LONGEST: u64 = 1 << 40;
+
+fn nanoseconds(clock: &impl Clock, start: Instant) -> io::Result<u64> {
+    let passed = start.elapsed(clock)?.as_nanos();
+    Ok(passed.min(LONGEST as u128) as u64)
+}
+
+/// Two ways to do the same work. Each gets the number of the run.
+pub trait Comparison {
+    fn fast(&self, run: usize) -> usize;
+
+    fn plain(&self, run: usize) -> usize;
+}
+
+/// Times both ways in turn, so that they share what else the machine does.
+fn in_turn<C: Comparison>(clock: &impl Clock, work: &C) -> io::Result<Timings> {
+    let mut fast_times = [0; RUNS];
+    let mut plain_times = [0; RUNS];
+    let mut answered: usize = 0;
+    for run in 0..RUNS {
+        let start = Instant::now(clock)?;
+        let answer = work.fast(run);
+        fast_times[run] = nanoseconds(clock, start)?;
+        let start = Instant::now(clock)?;
+        let other = work.plain(run);
+        plain_times[run] = nanoseconds(clock, start)?;
+        answered = answered.wrapping_add(answer).wrapping_add(other);
+    }
+    fast_times.sort_unstable();
+    plain_times.sort_unstable();
+    Ok(Timings {
+        fast: fast_times[RUNS / 2],
+        plain: plain_times[RUNS / 2],
+        answered,
+    })
+}
+
+/// Prints picoseconds an element, the same of the plain way, and how many times as long that takes.
+fn print_row(rt: &impl Print, name: &str, elements: usize, timings: Timings) -> io::Result<()> {
+    let each = (elements as u64).clamp(1, LONGEST);
+    let fast = timings.fast.clamp(1, LONGEST);
+    let plain = timings.plain.min(LONGEST);
+    let tenths = plain * 10 / fast;
+    println!(rt;
+        "{name}: {} ps an element, plain {} ps, {}.{} times ({})",
+        fast * 1000 / each,
+        plain * 1000 / each,
+        tenths / 10,
+        tenths % 10,
+        timings.answered
+    )
+}
+
+/// Times the work over so many elements, and prints its row.
+pub fn compare<C: Comparison>(
+    rt: &(impl Print + Clock),
+    name: &str,
+    elements: usize,
+    work: &C,
+) -> io::Result<()> {
+    print_row(rt, name, elements, in_turn(rt, work)?)
+}
