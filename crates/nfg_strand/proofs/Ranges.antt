@@ -1,0 +1,112 @@
+-- Lemmas on ranges of lists.
+use Rattle.std.proofs.Common.{◌≡◌, ℕ, zero, suc, ◌+◌, ◌-◌, ◌<◌, ◌≤◌, min, List, [], ◌∷◌, ◌++◌, length, get_or, take, drop, refl, ap, ap₂, sym, ◌∙◌, arith, length-drop, length-take-le, get_or-drop, get_or-take}
+use Rattle.std.proofs.lemmas.List.{drop-drop, drop-take, take-take, take_min, drop_min, take-append-drop, take_at}
+use Rattle.std.proofs.lemmas.Slice.{take-put_mid}
+use borrow.Rule.Slice.PartMut.{put_mid}
+use Rattle.std.proofs.Math.Seq.{take-append-add}
+use Rattle.std.specs.Prelude.{slice_range, slice_get, Some}
+
+module _ {A : Type 0} where
+  pub length-slice_range : (xs : List A) (a b : ℕ) → b ≤ length xs → length (slice_range xs a b) ≡ b - a
+  length-slice_range xs a b inside = length-take-le (b - a) (drop a xs) (simp length-drop (omega arith))
+
+  pub get_or-slice_range : (xs : List A) (a b i : ℕ) (d : A) → i < b - a → get_or (slice_range xs a b) i d ≡ get_or xs (a + i) d
+  get_or-slice_range xs a b i d within = get_or-take (b - a) (drop a xs) i d within ∙ get_or-drop a xs i d
+
+  -- what is taken of two lists in a row
+  pub take-append : (n : ℕ) (xs ys : List A) → take n (xs ++ ys) ≡ take n xs ++ take (n - length xs) ys
+  take-append zero xs ys = let none : 0 - length xs ≡ 0 = omega arith in rw none refl
+  take-append (suc n) [] ys = let all : suc n - 0 ≡ suc n = omega arith in rw all refl
+  take-append (suc n) (x ∷ xs) ys =
+      let one_less : suc n - suc (length xs) ≡ n - length xs = omega arith in
+      rw one_less (ap (λ zs. x ∷ zs) (take-append n xs ys))
+
+  -- what is left of two lists in a row
+  pub drop-append : (n : ℕ) (xs ys : List A) → drop n (xs ++ ys) ≡ drop n xs ++ drop (n - length xs) ys
+  drop-append zero xs ys = let none : 0 - length xs ≡ 0 = omega arith in rw none refl
+  drop-append (suc n) [] ys = let all : suc n - 0 ≡ suc n = omega arith in rw all refl
+  drop-append (suc n) (x ∷ xs) ys =
+      let one_less : suc n - suc (length xs) ≡ n - length xs = omega arith in
+      rw one_less (drop-append n xs ys)
+
+  -- a range of two lists in a row: its part in the first, and its part in the second
+  pub slice_range-append : (xs ys : List A) (a b : ℕ) → a ≤ b →
+      slice_range (xs ++ ys) a b ≡ slice_range xs (min a (length xs)) (min b (length xs)) ++ slice_range ys (a - length xs) (b - length xs)
+  slice_range-append xs ys a b ordered =
+      let cut = drop-append a xs ys in
+      let len = length-drop a xs in
+      let rest : b - a - length (drop a xs) ≡ (b - length xs) - (a - length xs) = omega arith in
+      ap (take (b - a)) cut ∙ take-append (b - a) (drop a xs) (drop (a - length xs) ys)
+      ∙ ap₂ ◌++◌ (front a b ordered) (ap (λ n. take n (drop (a - length xs) ys)) rest)
+    where
+      front : (a b : ℕ) → a ≤ b → take (b - a) (drop a xs) ≡ take (min b (length xs) - min a (length xs)) (drop (min a (length xs)) xs)
+      front a b ordered =
+          let len = length-drop a xs in
+          let both : min (b - a) (length (drop a xs)) ≡ min b (length xs) - min a (length xs) = omega arith in
+          sym (take_min (b - a) (drop a xs)) ∙ ap₂ take both (sym (drop_min a xs))
+
+  -- a range of a range
+  pub slice_range-slice_range : (xs : List A) (a b i j : ℕ) → i ≤ j → a + j ≤ b → slice_range (slice_range xs a b) i j ≡ slice_range xs (a + i) (a + j)
+  slice_range-slice_range xs a b i j ordered inside =
+      let until : b - a ≡ i + (b - a - i) = omega arith in
+      let count : j - i ≡ a + j - (a + i) = omega arith in
+      ap (λ n. take (j - i) (drop i (take n (drop a xs)))) until
+      ∙ ap (take (j - i)) (drop-take i (b - a - i) (drop a xs) ∙ ap (take (b - a - i)) (drop-drop i a xs))
+      ∙ take-take (j - i) (b - a - i) (drop (a + i) xs) (omega arith)
+      ∙ ap (λ n. take n (drop (a + i) xs)) count
+
+  -- a range that lies in another, by the place and the count in that one
+  pub slice_range_within : (xs : List A) (start end at count : ℕ) → start ≤ end → at + count ≤ end - start →
+      slice_range xs (start + at) (start + at + count) ≡ take count (drop at (slice_range xs start end))
+  slice_range_within xs start end at count ordered inside =
+      let counted : at + count - at ≡ count = omega arith in
+      let assoc : start + at + count ≡ start + (at + count) = omega arith in
+      ap (slice_range xs (start + at)) assoc
+      ∙ sym (slice_range-slice_range xs start end at (at + count) (omega arith) (omega arith))
+      ∙ ap (λ n. take n (drop at (slice_range xs start end))) counted
+
+  -- a part of a unit, as a range of the block in which the unit lies
+  pub unit_part : (block unit : List A) (start end at count : ℕ) → slice_range block start end ≡ unit → start ≤ end → end ≤ length block →
+      at + count ≤ length unit → slice_range block (start + at) (start + at + count) ≡ take count (drop at unit)
+  unit_part block unit start end at count view ordered inside within =
+      let len = length-slice_range block start end inside in
+      let same = ap length view in
+      slice_range_within block start end at count ordered (omega arith) ∙ ap (λ xs. take count (drop at xs)) view
+
+  -- the element at a place is the first of what is left there
+  pub slice_get-drop : (xs : List A) (k : ℕ) (x : A) (rest : List A) → drop k xs ≡ x ∷ rest → slice_get xs k ≡ Some x
+  slice_get-drop [] zero x rest e = cc
+  slice_get-drop [] (suc k) x rest e = cc
+  slice_get-drop (y ∷ xs) zero x rest e = let first : y ≡ x = cc in ap Some first
+  slice_get-drop (y ∷ xs) (suc k) x rest e = slice_get-drop xs k x rest e
+
+  -- the first n are the first m and those after them
+  pub take_split : (m n : ℕ) (xs : List A) → m ≤ n → take n xs ≡ take m xs ++ take (n - m) (drop m xs)
+  take_split m n xs ordered =
+      let parts : n ≡ m + (n - m) = omega arith in
+      sym (take-append-drop m (take n xs))
+      ∙ ap₂ ◌++◌ (take-take m n xs ordered) (ap (λ k. drop m (take k xs)) parts ∙ drop-take m (n - m) xs)
+
+  -- a range is its first n elements and the range after them
+  pub slice_range-split : (xs : List A) (a b n : ℕ) → a + n ≤ b → slice_range xs a b ≡ take n (drop a xs) ++ slice_range xs (a + n) b
+  slice_range-split xs a b n inside =
+      let rest : b - a - n ≡ b - (a + n) = omega arith in
+      take_split n (b - a) (drop a xs) (omega arith)
+      ∙ ap₂ (λ k ys. take n (drop a xs) ++ take k ys) rest (drop-drop n a xs)
+
+  -- after a write to the end of a slice from a place on: what is before the place stays, and the new elements follow
+  pub take-put_mid_front : (xs ys source tail : List A) (at k count : ℕ) → at ≤ length xs → count ≤ length ys → count ≤ length (drop at source) →
+      ys ≡ take count (drop at source) ++ tail → take at xs ≡ take at source → take (at + count) (put_mid at k xs ys) ≡ take (at + count) source
+  take-put_mid_front xs ys source tail at k count inside written enough new old =
+      let placed = take-put_mid at k xs ys (at + length ys) refl inside in
+      let front_len = length-take-le at xs inside in
+      let new_len = length-take-le count (drop at source) enough in
+      let parts : at + count ≡ length (take at xs) + count = omega arith in
+      let after : at + count - at ≡ count = omega arith in
+      sym (take-take (at + count) (at + length ys) (put_mid at k xs ys) (omega arith))
+      ∙ ap (take (at + count)) placed
+      ∙ ap (λ n. take n (take at xs ++ ys)) parts
+      ∙ take-append-add (take at xs) ys count
+      ∙ ap₂ ◌++◌ old (ap (take count) new ∙ take_at (take count (drop at source)) tail count new_len)
+      ∙ ap (λ n. take at source ++ take n (drop at source)) (sym after)
+      ∙ sym (take_split at (at + count) source (omega arith))

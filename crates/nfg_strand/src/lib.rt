@@ -1,0 +1,17 @@
+//! Strings of graphemes as strands over shared blocks.
+#![tactic(auto)]
+
+mod cut;
+mod graphemes;
+mod join;
+mod piece;
+mod search;
+mod strand;
+mod string;
+
+pub use graphemes::Graphemes;
+pub use piece::Piece;
+pub use string::NString;
+
+#[cfg(test)]
+mod tests;
