@@ -3,6 +3,7 @@
 
 use nfg_io::{RealFiles, RealSink};
 use nfg_run::{OpenGate, Words, run};
+use std::alloc::Global;
 use std::process::ExitCode;
 use std::rt::Env;
 use std::{env, io};
