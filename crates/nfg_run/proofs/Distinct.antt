@@ -44,18 +44,18 @@ distinct_count-push_cons xs t x true e again =
     let x_is_t : x ≡ t = (bytes_eq-Decides x t).0 e in
     let t_is_x : bytes_eq t x ≡ true = (bytes_eq-Decides t x).1 (sym x_is_t) in
     let first : missing (is_member bytes_eq xs x || bytes_eq x t) ≡ 0 =
-        ap missing (or-right (is_member bytes_eq xs x) (bytes_eq x t) e) in
+    ap missing (or-right (is_member bytes_eq xs x) (bytes_eq x t) e) in
     let second : missing (is_member bytes_eq (x ∷ xs) t) ≡ 0 = rw t_is_x refl in
     let alike : missing (is_member bytes_eq xs t) ≡ missing (is_member bytes_eq xs x) =
-        ap (λ q. missing (is_member bytes_eq xs q)) (sym x_is_t) in
+    ap (λ q. missing (is_member bytes_eq xs q)) (sym x_is_t) in
     omega (arith, before, after, again, first, second, alike)
 distinct_count-push_cons xs t x false e again =
     let before = distinct_count-cons x xs (is_member bytes_eq xs x) refl in
     let after = distinct_count-cons x (xs ++ t ∷ []) (is_member bytes_eq xs x || bytes_eq x t) (is_member-push xs t x) in
     let t_is_not_x : bytes_eq t x ≡ false = false_from_ne_true (bytes_eq t x)
-        (λ yes. let back : bytes_eq x t ≡ true = (bytes_eq-Decides x t).1 (sym ((bytes_eq-Decides t x).0 yes)) in cc) in
+    (λ yes. let back : bytes_eq x t ≡ true = (bytes_eq-Decides x t).1 (sym ((bytes_eq-Decides t x).0 yes)) in cc) in
     let first : missing (is_member bytes_eq xs x || bytes_eq x t) ≡ missing (is_member bytes_eq xs x) =
-        ap missing (ap (λ b. is_member bytes_eq xs x || b) e ∙ or-false (is_member bytes_eq xs x)) in
+    ap missing (ap (λ b. is_member bytes_eq xs x || b) e ∙ or-false (is_member bytes_eq xs x)) in
     let second : missing (is_member bytes_eq (x ∷ xs) t) ≡ missing (is_member bytes_eq xs t) = rw t_is_not_x refl in
     omega (arith, before, after, again, first, second)
 

@@ -116,6 +116,6 @@ pub gets_none-full : (places : ℕ) (texts : List (List ℕ)) (t : List ℕ) →
 gets_none-full places texts t several unknown full =
     let other : t ≢ crlf = λ s. unknown 0 (ap Some (sym s)) in
     let absent : is_member bytes_eq texts t ≡ false =
-        false_from_ne_true (is_member bytes_eq texts t) (λ yes. let place = is_member-place texts t yes in unknown (suc place.0) place.1) in
+    false_from_ne_true (is_member bytes_eq texts t) (λ yes. let place = is_member-place texts t yes in unknown (suc place.0) place.1) in
     or-right (is_too_long t) (is_new texts t && (length texts == places))
     (rw (takes_place-other t several other, absent, eq-eqb (length texts) places full) refl)

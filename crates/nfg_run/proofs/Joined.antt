@@ -45,9 +45,9 @@ pub line-grows : (c : ℕ) (parts : List (List ℕ)) (i : ℕ) (part start old s
     → new ≡ separated ++ part → new ≡ start ++ join_with_byte c (take (i + 1) parts)
 line-grows c parts i part start old separated new at before_is separated_is new_is =
     let joined : join_with_byte c (take (i + 1) parts) ≡ join_with_byte c (take i parts) ++ (if i == 0 then [] else c ∷ []) ++ part =
-        ap (join_with_byte c) (take-push parts i part at)
-        ∙ join-push c (take i parts) part
-        ∙ ap (λ v. join_with_byte c (take i parts) ++ v ++ part) (before-take c parts i part at) in
+    ap (join_with_byte c) (take-push parts i part at)
+    ∙ join-push c (take i parts) part
+    ∙ ap (λ v. join_with_byte c (take i parts) ++ v ++ part) (before-take c parts i part at) in
     new_is ∙ ap (λ v. v ++ part) (separated_is ∙ ap (λ v. v ++ (if i == 0 then [] else c ∷ [])) before_is)
     ∙ ap (λ v. v ++ part) (append_assoc start (join_with_byte c (take i parts)) (if i == 0 then [] else c ∷ []))
     ∙ append_assoc start (join_with_byte c (take i parts) ++ (if i == 0 then [] else c ∷ [])) part

@@ -122,7 +122,7 @@ next_part codes left start end done (p ∷ ps) whole text ends nonempty within =
     let size : end - start ≡ length p = omega (arith, end_is) in
     let part : take (end - start) (drop start codes) ≡ p = rw (size, text) (take-append_seam p (concat ps)) in
     let after : drop end codes ≡ concat ps =
-        rw end_is (drop-more start (length p) codes ∙ ap (drop (length p)) text ∙ drop-append_seam p (concat ps)) in
+    rw end_is (drop-more start (length p) codes ∙ ap (drop (length p)) text ∙ drop-append_seam p (concat ps)) in
     let long : length (drop start codes) ≡ length p + length (concat ps) = ap length text ∙ length-append p (concat ps) in
     record {
       rest = ps;
@@ -174,7 +174,7 @@ Numbering-next codes ends left i j start end texts new_texts numbers new_numbers
   short = list_any-append is_too_long n.done (cluster ∷ []) ∙ (rw (n.short, short) refl);
   numbers_are =
       let within : IsWithin (known_of texts) (known_of new_texts) =
-          (let P : List (List ℕ) → Type 0 = λ v. IsWithin (known_of texts) (known_of v) in subst P (sym grown) (IsWithin-with texts cluster)) in
+      (let P : List (List ℕ) → Type 0 = λ v. IsWithin (known_of texts) (known_of v) in subst P (sym grown) (IsWithin-with texts cluster)) in
       let earlier = Represents-grows (known_of texts) (known_of new_texts) within numbers n.done n.numbers_are in
       (rw pushed (Represents-push (known_of new_texts) numbers n.done k cluster earlier spelled));
 }
@@ -185,7 +185,7 @@ pub Numbering-refused : (places : ℕ) (codes ends left : List ℕ) (i start end
     → gets_none places texts cluster ≡ true → kept places [] (clusters codes) ≡ Err NotYet
 Numbering-refused places codes ends left i start end texts numbers cluster n next none =
     let none_after : gets_none places (texts_after n.done) cluster ≡ true =
-        (let P : List (List ℕ) → Type 0 = λ v. gets_none places v cluster ≡ true in subst P n.texts_are none) in
+    (let P : List (List ℕ) → Type 0 = λ v. gets_none places v cluster ≡ true in subst P n.texts_are none) in
     ap (kept places []) (sym next.whole) ∙ kept-none places n.done cluster next.rest none_after
 
 none_left : (start : ℕ) (rest : List (List ℕ)) → ends_from start rest ≡ [] → rest ≡ []
@@ -203,7 +203,7 @@ Numbering-last places codes ends i start texts numbers n last fit =
     let none : n.rest ≡ [] = none_left start n.rest (sym n.ends_left ∙ last) in
     let all : n.done ≡ clusters codes = sym (append-nil n.done) ∙ ap (λ v. n.done ++ v) (sym none) ∙ n.whole in
     let fits : length (texts_after n.done) ≤ places =
-        (let P : List (List ℕ) → Type 0 = λ v. length v ≤ places in subst P n.texts_are fit) in
+    (let P : List (List ℕ) → Type 0 = λ v. length v ≤ places in subst P n.texts_are fit) in
     let P : List (List ℕ) → Type 0 = λ v. kept places [] v ≡ Ok v in
     let Q : List (List ℕ) → Type 0 = λ v. Represents (known_of texts) numbers v in
     record {

@@ -30,7 +30,7 @@ AreDistinct-known texts used t are known = record {
     by : (q : List ℕ) (same : Bool) → bytes_eq q t ≡ same → (is_member bytes_eq used q || bytes_eq q t) ≡ is_member bytes_eq used q
     by q true e =
         let here : is_member bytes_eq used q ≡ true =
-            ap (is_member bytes_eq used) ((bytes_eq-Decides q t).0 e) ∙ sym (are.members t) ∙ known in
+        ap (is_member bytes_eq used) ((bytes_eq-Decides q t).0 e) ∙ sym (are.members t) ∙ known in
         rw (here) refl
     by q false e = rw e (or-false (is_member bytes_eq used q))
 
@@ -59,8 +59,8 @@ AreDistinct-fold [] texts used are = let P : List (List ℕ) → Type 0 = λ v. 
 AreDistinct-fold (c ∷ cs) texts used are =
     let rest = AreDistinct-fold cs (texts_with texts c) (used ++ filter takes_place (c ∷ [])) (AreDistinct-with texts used c are) in
     let e : (used ++ filter takes_place (c ∷ [])) ++ filter takes_place cs ≡ used ++ filter takes_place (c ∷ cs) =
-        append_assoc used (filter takes_place (c ∷ [])) (filter takes_place cs)
-        ∙ ap (λ v. used ++ v) (sym (filter-append takes_place (c ∷ []) cs)) in
+    append_assoc used (filter takes_place (c ∷ [])) (filter takes_place cs)
+    ∙ ap (λ v. used ++ v) (sym (filter-append takes_place (c ∷ []) cs)) in
     let P : List (List ℕ) → Type 0 = λ v. AreDistinct (fold texts_with (texts_with texts c) cs) v in
     subst P e rest
 
@@ -95,12 +95,12 @@ too_many places done c rest new full =
     let grown : texts_after (done ++ c ∷ []) ≡ texts_after done ++ c ∷ [] = texts_after-push done c ∙ rw new refl in
     let counted = (AreDistinct-after (done ++ c ∷ [])).count in
     let size : length (texts_after (done ++ c ∷ [])) ≡ places + 1 =
-        ap length grown ∙ omega (arith, full, length-append (texts_after done) (c ∷ [])) in
+    ap length grown ∙ omega (arith, full, length-append (texts_after done) (c ∷ [])) in
     let parts : filter takes_place (done ++ c ∷ rest) ≡ filter takes_place (done ++ c ∷ []) ++ filter takes_place rest =
-        ap (filter takes_place) (sym (append_assoc done (c ∷ []) rest)) ∙ filter-append takes_place (done ++ c ∷ []) rest in
+    ap (filter takes_place) (sym (append_assoc done (c ∷ []) rest)) ∙ filter-append takes_place (done ++ c ∷ []) rest in
     let more = distinct_count-append (filter takes_place (done ++ c ∷ [])) (filter takes_place rest) in
     let same : distinct_count bytes_eq (filter takes_place (done ++ c ∷ rest))
-            ≡ distinct_count bytes_eq (filter takes_place (done ++ c ∷ []) ++ filter takes_place rest) = ap (distinct_count bytes_eq) parts in
+    ≡ distinct_count bytes_eq (filter takes_place (done ++ c ∷ []) ++ filter takes_place rest) = ap (distinct_count bytes_eq) parts in
     lt-ltb places _ (omega (arith, counted, size, more, same))
 
 -- a cluster that gets no number is not kept, whatever follows

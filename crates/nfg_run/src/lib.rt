@@ -16,6 +16,8 @@ mod printing;
 mod reading;
 mod script;
 mod status;
+#[cfg(test)]
+mod tests;
 mod words;
 mod writing;
 

@@ -20,12 +20,12 @@ pub returns : goal.returns
 returns c =
     let read = c.in-Some.read.now in
     IfOk-map _ _ c.refuse.result (λ output refused.
-        let reason : HasReason (Refused refused.0) (λ why. loaded c.in_ok-table.table [] read ≡ Err why) =
-            rw (refused.1) at c.in-Err.ensures.refused in
-        evaluate-refused c.args.script.now c.args.reads.now c.args.places c.load_line-line.result output read refused.0
-        c.requires.script (first_read c.args.reads.now read c.in-Some.ensures.value)
-        (ap (λ n. loaded n [] read) (sym c.in_ok-table.ensures.table) ∙ reason)
-        c.load_line-line.ensures refused.2) c.refuse.ensures
+    let reason : HasReason (Refused refused.0) (λ why. loaded c.in_ok-table.table [] read ≡ Err why) =
+    rw (refused.1) at c.in-Err.ensures.refused in
+    evaluate-refused c.args.script.now c.args.reads.now c.args.places c.load_line-line.result output read refused.0
+    c.requires.script (first_read c.args.reads.now read c.in-Some.ensures.value)
+    (ap (λ n. loaded n [] read) (sym c.in_ok-table.ensures.table) ∙ reason)
+    c.load_line-line.ensures refused.2) c.refuse.ensures
 
 pub returns-in-Ok : goal.returns-in-Ok
 returns-in-Ok c =

@@ -35,8 +35,8 @@ returns-in_err-push_number-clause-refused c =
     let e = drop-at c.args.ends.now c.numbering.end-index c.numbering-test.true in
     let cluster = take (slice_index_or c.args.ends.now c.numbering.end-index 0 - c.numbering.start) (drop c.numbering.start c.args.codes.now) in
     let reason : HasReason c.in_err-push_number.field-0.0 (λ cause. kept c.args.table.now [] (clusters c.args.codes.now) ≡ Err cause) =
-        HasReason-map _ (λ cause. (cause ≡ NotYet) × (gets_none c.args.table.now c.numbering.pass.texts cluster ≡ true)) _ (λ cause is. Numbering-refused c.args.table.now _ _ _ _ _ _ _ _ _ n (IsNext-of _ _ _ _ _ _ _ _ n e) is.1 ∙ ap (λ v. Err v) (sym is.0))
-        c.in_err-push_number.ensures.refused in
+    HasReason-map _ (λ cause. (cause ≡ NotYet) × (gets_none c.args.table.now c.numbering.pass.texts cluster ≡ true)) _ (λ cause is. Numbering-refused c.args.table.now _ _ _ _ _ _ _ _ _ n (IsNext-of _ _ _ _ _ _ _ _ n e) is.1 ∙ ap (λ v. Err v) (sym is.0))
+    c.in_err-push_number.ensures.refused in
     search rules
 
 pub numbering-preserved : goal.numbering-preserved

@@ -9,7 +9,7 @@ pub returns : goal.returns
 returns c = λ clusters are.
     let len = Represents-length (known_of c.args.pass.now.texts) c.args.numbers.now clusters are in
     let text : c.in_ok-bytes.bytes.items ≡ decimal (length clusters) ++ 10 ∷ [] =
-        c.in_ok-bytes.ensures.items ∙ c.as_bytes.ensures.value ∙ c.in_ok-len.ensures.ok ∙ ap (λ n. decimal n ++ 10 ∷ []) len in
+    c.in_ok-bytes.ensures.items ∙ c.as_bytes.ensures.value ∙ c.in_ok-len.ensures.ok ∙ ap (λ n. decimal n ++ 10 ∷ []) len in
     c.from_vec.ensures ∙ c.in_ok-push.ensures.items
     ∙ ap (λ v. v ++ 10 ∷ []) (c.in_ok-show.ensures clusters are)
     ∙ ap (λ v. v ++ shown clusters ++ 10 ∷ []) text

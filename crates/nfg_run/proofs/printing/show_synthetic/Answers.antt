@@ -12,7 +12,7 @@ code-requires-clause-known c =
     let cluster = c.requires.known.0 in
     let n_is : to_z w32 (of_z w32 c.args.n) ≡ c.args.n = to_z-of_z w32 c.args.n c.ranges.n in
     let here : text_at (known_of c.args.pass.now.texts) (to_z w32 (of_z w32 c.args.n)) ≡ Some cluster =
-        ap (text_at (known_of c.args.pass.now.texts)) n_is ∙ c.requires.known.1 in
+    ap (text_at (known_of c.args.pass.now.texts)) n_is ∙ c.requires.known.1 in
     let counted : IfSome (Some cluster) (λ t. c.count-count.result ≡ length t) = rw here at c.count-count.ensures.count in
     (cluster, ap (λ known. text_at known (to_z w32 (of_z w32 c.args.n))) c.spelling.invariant.known ∙ here, omega (arith, counted, c.spelling-test.true))
 
@@ -26,7 +26,7 @@ spelling-preserved c = record {
   known = Texts-same (known_of c.spelling.pass.texts) (known_of c.code.new.pass.texts) c.code.ensures.known ∙ c.spelling.invariant.known;
   line = λ cluster e.
       let here : text_at (known_of c.spelling.pass.texts) (to_z w32 (of_z w32 c.args.n)) ≡ Some cluster =
-          ap (λ known. text_at known (to_z w32 (of_z w32 c.args.n))) c.spelling.invariant.known ∙ e in
+      ap (λ known. text_at known (to_z w32 (of_z w32 c.args.n))) c.spelling.invariant.known ∙ e in
       let at : IfSome (Some cluster) (λ t. slice_get t c.spelling.k ≡ Some c.code.result) = rw here at c.code.ensures.code in
       line-grows 43 (map (digits 16 true) cluster) c.spelling.k (digits 16 true c.code.result) c.args.line.now.items _ _ _
       (slice_get-map (digits 16 true) cluster c.spelling.k c.code.result at)
@@ -37,9 +37,9 @@ pub returns-clause-shown : goal.returns-clause-shown
 returns-clause-shown c = λ cluster e.
     let n_is : to_z w32 (of_z w32 c.args.n) ≡ c.args.n = to_z-of_z w32 c.args.n c.ranges.n in
     let here : text_at (known_of c.args.pass.now.texts) (to_z w32 (of_z w32 c.args.n)) ≡ Some cluster =
-        ap (text_at (known_of c.args.pass.now.texts)) n_is ∙ e in
+    ap (text_at (known_of c.args.pass.now.texts)) n_is ∙ e in
     let counted : IfSome (Some cluster) (λ t. c.count-count.result ≡ length t) = rw here at c.count-count.ensures.count in
     let all : length (map (digits 16 true) cluster) ≤ c.spelling.k =
-        omega (arith, counted, c.spelling-test.false, length-mapped (digits 16 true) cluster) in
+    omega (arith, counted, c.spelling-test.false, length-mapped (digits 16 true) cluster) in
     c.spelling.invariant.line cluster here
     ∙ ap (λ v. c.args.line.now.items ++ join_with_byte 43 v) (take-all (map (digits 16 true) cluster) c.spelling.k all)
