@@ -1,0 +1,9 @@
+-- UTF-8 (The Unicode Standard, D92 and Table 3-7), in the words of std.
+use Rattle.std.specs.Prelude.{ℕ, List, length, ◌==◌, if◌then◌else◌, Ok, Err, chars}
+use Rattle.std.specs.Str.Lossy.{utf8_valid_len}
+use Rattle.nfg_decode.specs.Decoded.{Decoded}
+
+-- The bytes are well-formed where their longest well-formed front is all of them. If they are not,
+-- the place is the length of that front.
+unfoldable pub decode_utf8 : List ℕ → Decoded
+decode_utf8 b = if utf8_valid_len b == length b then Ok (chars b) else Err (utf8_valid_len b)
