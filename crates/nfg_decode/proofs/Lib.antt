@@ -1,1 +1,4 @@
 pub mod Examples
+pub mod Stepwise
+pub mod Utf16Laws
+pub mod Utf8Laws
