@@ -1,4 +1,6 @@
 pub mod Examples
+pub mod ReadsLemmas
 pub mod Stepwise
 pub mod Utf16Laws
+pub mod Utf16Tails
 pub mod Utf8Laws

@@ -96,6 +96,11 @@ module _ (D : List ℕ → Decoded) (stepwise : IsStepwise D) where
   pub joins : (xs ys t : List ℕ) → D xs ≡ Ok t → D (xs ++ ys) ≡ after_text t (length xs) (D ys)
   joins xs ys t e = joins_within (length xs) xs ys t (omega arith) e
 
+  -- a text and then a text
+  pub two_texts : (b : List ℕ) (m n : ℕ) (t u : List ℕ) → D (take m b) ≡ Ok t → D (take n (drop m b)) ≡ Ok u → D (take (m + n) b) ≡ Ok (t ++ u)
+  two_texts b m n t u e f =
+      ap D (take-add m n b) ∙ joins (take m b) (take n (drop m b)) t e ∙ ap (λ r. after_text t (length (take m b)) r) f
+
   -- where decoding fails: a text goes up to there, and no sequence stands there
   pub record Breaks (b : List ℕ) (p : ℕ) : Type 0 where
     pub within : p ≤ length b

@@ -4,16 +4,17 @@ use Rattle.std.specs.Result.{result_unwrap_or}
 use Rattle.std.specs.Char.Escape.{encode_utf16}
 use Rattle.nfg_decode.specs.declared.encoding.Encoding.{Encoding}
 use Rattle.nfg_decode.specs.declared.encoding.Encoding.TheVariants.{Utf8, Utf16, Utf16Le, Utf16Be, Latin1}
+use Rattle.nfg_decode.specs.declared.utf16.ByteOrder.TheVariants.{Little, Big}
 use Rattle.nfg_decode.specs.Decoded.{Decoded}
 use Rattle.nfg_decode.specs.Utf8.{decode_utf8}
-use Rattle.nfg_decode.specs.Utf16.{little, big, unit_bytes, mark, decode_utf16, decode_marked}
+use Rattle.nfg_decode.specs.Utf16.{unit_bytes, mark, decode_utf16, decode_marked}
 
 -- the text that the bytes spell, or the first malformed place
 unfoldable pub decode : Encoding → List ℕ → Decoded
 decode Utf8 b = decode_utf8 b
 decode Utf16 b = decode_marked b
-decode Utf16Le b = decode_utf16 little b
-decode Utf16Be b = decode_utf16 big b
+decode Utf16Le b = decode_utf16 Little b
+decode Utf16Be b = decode_utf16 Big b
 decode Latin1 b = Ok b
 
 -- the greatest length up to n of a front of b that is a text
@@ -44,15 +45,15 @@ has_code Latin1 c = nat_lt c 256
 -- the bytes of a code point
 abbrev pub encode_code : Encoding → ℕ → List ℕ
 encode_code Utf8 c = encode_utf8 c
-encode_code Utf16 c = flat_map (unit_bytes big) (encode_utf16 c)
-encode_code Utf16Le c = flat_map (unit_bytes little) (encode_utf16 c)
-encode_code Utf16Be c = flat_map (unit_bytes big) (encode_utf16 c)
+encode_code Utf16 c = flat_map (unit_bytes Big) (encode_utf16 c)
+encode_code Utf16Le c = flat_map (unit_bytes Little) (encode_utf16 c)
+encode_code Utf16Be c = flat_map (unit_bytes Big) (encode_utf16 c)
 encode_code Latin1 c = c ∷ []
 
 -- what stands before the text: `Utf16` writes the big-endian mark
 abbrev pub text_start : Encoding → List ℕ
 text_start Utf8 = []
-text_start Utf16 = mark big
+text_start Utf16 = mark Big
 text_start Utf16Le = []
 text_start Utf16Be = []
 text_start Latin1 = []

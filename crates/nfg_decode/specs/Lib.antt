@@ -1,4 +1,5 @@
 pub mod Decoded
 pub mod Encoding
+pub mod Reads
 pub mod Utf16
 pub mod Utf8

@@ -2,5 +2,9 @@
 #![tactic(auto)]
 
 mod encoding;
+mod latin1;
+mod part;
+mod reading;
+mod utf16;
 
 pub use encoding::{DecodeError, Encoding};
