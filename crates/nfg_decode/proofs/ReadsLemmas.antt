@@ -1,5 +1,5 @@
 -- On what a reading gives.
-use Rattle.std.proofs.Common.{◌≡◌, ℕ, ◌≤◌, ◌⊎◌, inl, inr, List, [], ◌∷◌, ◌++◌, length, take, drop, refl, sym, ap, ◌∙◌, subst, arith, append_assoc}
+use Rattle.std.proofs.Common.{◌≡◌, ℕ, zero, suc, ◌<◌, ◌≤◌, ◌⊎◌, inl, inr, List, [], ◌∷◌, ◌++◌, length, take, drop, refl, sym, ap, ◌∙◌, subst, arith, append_assoc}
 use Rattle.std.proofs.lemmas.List.{append-nil, take_all, drop_all}
 use Rattle.std.specs.Prelude.{Result, Ok, Err, OnErr}
 use Rattle.std.specs.Str.{chars}
@@ -34,8 +34,21 @@ decode-nil Utf16Le = refl
 decode-nil Utf16Be = refl
 decode-nil Latin1 = refl
 
-AreBytes-nil : AreBytes []
+pub AreBytes-cons : (x : ℕ) (xs : List ℕ) → x < 256 → AreBytes xs → AreBytes (x ∷ xs)
+AreBytes-cons x xs h t zero d l = h
+AreBytes-cons x xs h t (suc k) d l = t k d (omega arith)
+
+pub AreBytes-nil : AreBytes []
 AreBytes-nil k d l = absurd (omega arith)
+
+pub one_byte : (x : ℕ) → x < 256 → AreBytes (x ∷ [])
+one_byte x h = AreBytes-cons x [] h AreBytes-nil
+
+pub two_bytes : (x y : ℕ) → x < 256 → y < 256 → AreBytes (x ∷ y ∷ [])
+two_bytes x y h g = AreBytes-cons x (y ∷ []) h (one_byte y g)
+
+pub three_bytes : (x y z : ℕ) → x < 256 → y < 256 → z < 256 → AreBytes (x ∷ y ∷ z ∷ [])
+three_bytes x y z h g f = AreBytes-cons x (y ∷ z ∷ []) h (two_bytes y z g f)
 
 pub IsUnfinished-nil : (e : Encoding) → IsUnfinished e []
 IsUnfinished-nil e = record {

@@ -10,7 +10,7 @@ use Rattle.nfg_decode.specs.Decoded.{Decoded, after_text}
 use Rattle.nfg_decode.specs.Utf16.{unit, is_surrogate, is_low_byte, is_surely_low, may_be_low, is_hopeless, decode_utf16}
 use Rattle.nfg_decode.specs.Encoding.{decode, AreBytes, IsAlreadyMalformed}
 use Rattle.nfg_decode.specs.Reads.{AppendsUnits, IsUnfinished, Reads, utf16_form}
-use Rattle.nfg_decode.proofs.ReadsLemmas.{IsUnfinished-nil}
+use Rattle.nfg_decode.proofs.ReadsLemmas.{IsUnfinished-nil, one_byte, two_bytes, three_bytes}
 use Rattle.nfg_decode.proofs.Stepwise.{Fails, fails}
 use Rattle.nfg_decode.proofs.Utf16Laws.{lone, paired, unpaired_alone, unpaired_odd, unpaired}
 
@@ -102,22 +102,6 @@ module _ (o : ByteOrder) where
       unpaired o x y z w (b ++ more) (surrogate_first x y (z ∷ w ∷ b) e) (not_paired x y z w b e)
 
 -- ---- what more bytes mend
-
-AreBytes-cons : (x : ℕ) (xs : List ℕ) → x < 256 → AreBytes xs → AreBytes (x ∷ xs)
-AreBytes-cons x xs h t zero d l = h
-AreBytes-cons x xs h t (suc k) d l = t k d (omega arith)
-
-AreBytes-nil : AreBytes []
-AreBytes-nil k d l = absurd (omega arith)
-
-one_byte : (x : ℕ) → x < 256 → AreBytes (x ∷ [])
-one_byte x h = AreBytes-cons x [] h AreBytes-nil
-
-two_bytes : (x y : ℕ) → x < 256 → y < 256 → AreBytes (x ∷ y ∷ [])
-two_bytes x y h g = AreBytes-cons x (y ∷ []) h (one_byte y g)
-
-three_bytes : (x y z : ℕ) → x < 256 → y < 256 → z < 256 → AreBytes (x ∷ y ∷ z ∷ [])
-three_bytes x y z h g f = AreBytes-cons x (y ∷ z ∷ []) h (two_bytes y z g f)
 
 pub decode-utf16_form : (o : ByteOrder) (b : List ℕ) → decode (utf16_form o) b ≡ decode_utf16 o b
 unfolding decode
