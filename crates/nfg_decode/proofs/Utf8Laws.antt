@@ -92,6 +92,11 @@ pub decode_utf8_text : (bs : List ℕ) → IsUtf8 bs → decode_utf8 bs ≡ Ok (
 unfolding decode_utf8
 decode_utf8_text bs u = rw (eq-eqb (utf8_valid_len bs) (length bs) (utf8_valid_len-IsUtf8 bs u)) refl
 
+-- and where some are left over they are malformed there
+pub fault_at : (bs : List ℕ) (p : ℕ) → p < length bs → p ≡ utf8_valid_len bs → decode_utf8 bs ≡ Err p
+unfolding decode_utf8
+fault_at bs p short e = rw (ne_eqb (utf8_valid_len bs) (length bs) (omega arith)) (ap (λ n. Err n) (sym e))
+
 -- the first of the characters that spell a front
 first_char : (cs bs : List ℕ) (n : ℕ) → scalars cs ≡ true → encodes cs ≡ take n bs → 0 < length (take n bs) → First decode_utf8 bs
 first_char [] bs n s e some = absurd (omega (arith, ap length e))

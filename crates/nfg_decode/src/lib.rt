@@ -5,6 +5,8 @@ mod encoding;
 mod latin1;
 mod part;
 mod reading;
+mod tail;
 mod utf16;
+mod utf8;
 
 pub use encoding::{DecodeError, Encoding};

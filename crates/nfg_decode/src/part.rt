@@ -7,7 +7,7 @@ use nfg_text::CodeList;
 use std::alloc::AllocError;
 
 /// Copies each byte.
-fn widen(bytes: &[u8], codes: &mut [u32])
+pub(crate) fn widen(bytes: &[u8], codes: &mut [u32])
     requires { length bytes.now ≡ length codes.old }
     ensures { codes.new ≡ bytes.now }
 {
