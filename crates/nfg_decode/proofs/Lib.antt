@@ -1,4 +1,6 @@
 pub mod Examples
+pub mod PrefixLemmas
+pub mod ReadingLemmas
 pub mod ReadsLemmas
 pub mod Stepwise
 pub mod Utf16Laws

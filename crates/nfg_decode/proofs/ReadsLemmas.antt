@@ -41,6 +41,10 @@ AreBytes-cons x xs h t (suc k) d l = t k d (omega arith)
 pub AreBytes-nil : AreBytes []
 AreBytes-nil k d l = absurd (omega arith)
 
+pub AreBytes-append : (xs ys : List ℕ) → AreBytes xs → AreBytes ys → AreBytes (xs ++ ys)
+AreBytes-append [] ys a b = b
+AreBytes-append (x ∷ xs) ys a b = AreBytes-cons x (xs ++ ys) (a 0 0 (omega arith)) (AreBytes-append xs ys (λ k d l. a (suc k) d (omega arith)) b)
+
 pub one_byte : (x : ℕ) → x < 256 → AreBytes (x ∷ [])
 one_byte x h = AreBytes-cons x [] h AreBytes-nil
 

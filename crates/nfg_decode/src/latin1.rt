@@ -5,7 +5,7 @@ ghost use Rattle.nfg_decode.specs.Reads.{Grew, Reads};
 ghost use Rattle.nfg_decode.specs.declared.encoding.Encoding.TheVariants.{Latin1};
 
 use crate::part::append_bytes;
-use crate::reading::Reach;
+use crate::reach::Reach;
 use nfg_text::CodeList;
 use std::alloc::AllocError;
 

@@ -3,7 +3,9 @@
 
 mod encoding;
 mod latin1;
+mod mark;
 mod part;
+mod reach;
 mod reading;
 mod tail;
 mod utf16;

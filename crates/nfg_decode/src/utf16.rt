@@ -6,7 +6,7 @@ ghost use Rattle.nfg_decode.specs.Decoded.{after_text};
 ghost use Rattle.nfg_decode.specs.Utf16.{unit, is_surrogate, is_surely_low, may_be_low, is_hopeless, decode_utf16};
 ghost use Rattle.nfg_decode.specs.Reads.{Grew, Reads, AppendsUnits, utf16_form};
 
-use crate::reading::Reach;
+use crate::reach::Reach;
 use nfg_text::CodeList;
 use std::alloc::AllocError;
 

@@ -7,7 +7,7 @@ ghost use Rattle.nfg_decode.specs.Reads.{Grew, Reads};
 ghost use Rattle.nfg_decode.specs.declared.encoding.Encoding.TheVariants.{Utf8};
 
 use crate::part::widen;
-use crate::reading::Reach;
+use crate::reach::Reach;
 use nfg_text::CodeList;
 use simdutf8::compat::from_utf8;
 use std::alloc::AllocError;
