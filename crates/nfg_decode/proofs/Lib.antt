@@ -1,4 +1,5 @@
 pub mod Examples
+pub mod MarkLemmas
 pub mod PrefixLemmas
 pub mod ReadingLemmas
 pub mod ReadsLemmas

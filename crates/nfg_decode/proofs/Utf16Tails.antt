@@ -34,7 +34,7 @@ not_high : (u : ℕ) → (u < 0xD800) ⊎ (0xDC00 ≤ u) → is_high_surrogate u
 not_high u (inl h) = and_left _ _ (lt-leb 0xD800 u h)
 not_high u (inr h) = and_right _ _ (le-ltb u 0xDC00 h)
 
-not_surrogate : (u : ℕ) → (u < 0xD800) ⊎ (0xE000 ≤ u) → is_surrogate u ≡ false
+pub not_surrogate : (u : ℕ) → (u < 0xD800) ⊎ (0xE000 ≤ u) → is_surrogate u ≡ false
 not_surrogate u (inl h) = or_from _ _ (not_high u (inl h)) (not_low u (inl (omega arith)))
 not_surrogate u (inr h) = or_from _ _ (not_high u (inr (omega arith))) (not_low u (inr h))
 
@@ -108,7 +108,7 @@ unfolding decode
 decode-utf16_form Little b = refl
 decode-utf16_form Big b = refl
 
-mended : (o : ByteOrder) (r more text : List ℕ) → length r ≤ 3 → decode_utf16 o r ≡ Err 0 → AreBytes more → decode_utf16 o (r ++ more) ≡ Ok text → IsUnfinished (utf16_form o) r
+pub mended : (o : ByteOrder) (r more text : List ℕ) → length r ≤ 3 → decode_utf16 o r ≡ Err 0 → AreBytes more → decode_utf16 o (r ++ more) ≡ Ok text → IsUnfinished (utf16_form o) r
 mended o r more text short e bytes whole = record {
   short = short;
   cut = inr (decode-utf16_form o r ∙ e);
@@ -118,7 +118,7 @@ mended o r more text short e bytes whole = record {
   completed = decode-utf16_form o (r ++ more) ∙ whole;
 }
 
-one_unit : (o : ByteOrder) (x y : ℕ) → is_surrogate (unit o x y) ≡ false → decode_utf16 o (x ∷ y ∷ []) ≡ Ok (unit o x y ∷ [])
+pub one_unit : (o : ByteOrder) (x y : ℕ) → is_surrogate (unit o x y) ≡ false → decode_utf16 o (x ∷ y ∷ []) ≡ Ok (unit o x y ∷ [])
 unfolding decode_utf16
 one_unit o x y s = lone o x y s []
 

@@ -3,6 +3,7 @@ pub mod Encoding
 pub mod Mark
 pub mod Reading
 pub mod Reads
+pub mod State
 pub mod Tail
 pub mod Utf16
 pub mod Utf8

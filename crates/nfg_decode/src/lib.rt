@@ -7,6 +7,7 @@ mod mark;
 mod part;
 mod reach;
 mod reading;
+mod state;
 mod tail;
 mod utf16;
 mod utf8;

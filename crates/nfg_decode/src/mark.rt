@@ -1,8 +1,7 @@
 //! The byte order mark of UTF-16 (The Unicode Standard, D98).
 
-ghost use Rattle.std.specs.Prelude.{◌≡◌, ◌+◌, ◌≤◌, ◌++◌, length, drop, IfNone};
-ghost use Rattle.nfg_decode.specs.Mark.{TellsMark, Opens, MayBeMark, rest_encoding};
-ghost use Rattle.nfg_decode.specs.Reads.{IsUnfinished};
+ghost use Rattle.std.specs.Prelude.{ℕ, ◌+◌, ◌≤◌, List, ◌∷◌, length};
+ghost use Rattle.nfg_decode.specs.Mark.{TellsMark, Opens, MayBeMark};
 ghost use Rattle.nfg_decode.specs.Tail.{bytes_of};
 
 use crate::reading::Form;
@@ -30,25 +29,40 @@ pub(crate) struct Opening {
     pub(crate) used: usize,
 }
 
+/// The mark of two bytes.
+fn mark_of_two(x: u8, y: u8) -> Mark
+    ensures { (more : List ℕ) → TellsMark (x ∷ y ∷ more) result }
+{
+    let unit = u32::from(x) * 256 + u32::from(y);
+    if unit == 0xFEFF {
+        return Mark::Is(ByteOrder::Big);
+    }
+    if unit == 0xFFFE {
+        return Mark::Is(ByteOrder::Little);
+    }
+    Mark::Absent
+}
+
+/// The mark of the first bytes.
 fn mark_of(bytes: &[u8]) -> Mark
     ensures { TellsMark bytes.now result }
 {
     match bytes {
         [] => Mark::Undecided,
-        [x] => if *x < 0xFE {
-            Mark::Absent
-        } else {
-            Mark::Undecided
-        },
-        [0xFE, 0xFF, ..] => Mark::Is(ByteOrder::Big),
-        [0xFF, 0xFE, ..] => Mark::Is(ByteOrder::Little),
-        [_, _, ..] => Mark::Absent,
+        [x] => {
+            if *x < 0xFE {
+                Mark::Absent
+            } else {
+                Mark::Undecided
+            }
+        }
+        [x, y, ..] => mark_of_two(*x, *y),
     }
 }
 
 /// Looks for the mark at the start of the bytes.
-fn look_for_mark(tail: Tail, piece: &[u8]) -> Opening
-    ensures opens { MayBeMark (bytes_of tail) → Opens None (bytes_of tail) piece.now result }
+pub(crate) fn look_for_mark(tail: Tail, piece: &[u8]) -> Opening
+    ensures opens { MayBeMark (bytes_of tail) → Opens (bytes_of tail) piece.now result }
     ensures used { result.used ≤ length piece.now }
     ensures len { result.mark + length (bytes_of result.tail) ≤ length (bytes_of tail) + result.used }
 {

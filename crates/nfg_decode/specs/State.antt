@@ -1,0 +1,49 @@
+-- What a stream knows of the bytes that it has read (this project's own).
+use Rattle.std.specs.Prelude.{◌≡◌, ℕ, ◌+◌, List, [], ◌++◌, length, drop, Ok, MatchOption}
+use Rattle.nfg_decode.specs.declared.encoding.Encoding.{Encoding}
+use Rattle.nfg_decode.specs.declared.encoding.Encoding.TheVariants.{Utf16}
+use Rattle.nfg_decode.specs.declared.reading.Form.{Form}
+use Rattle.nfg_decode.specs.declared.mark.Opening.{Opening}
+use Rattle.nfg_decode.specs.declared.state.State.{State}
+use Rattle.nfg_decode.specs.declared.state.Next.{Next}
+use Rattle.nfg_decode.specs.Encoding.{decode, decoded_prefix, IsAlreadyMalformed}
+use Rattle.nfg_decode.specs.Reads.{IsUnfinished}
+use Rattle.nfg_decode.specs.Reading.{as_encoding}
+use Rattle.nfg_decode.specs.Tail.{bytes_of}
+use Rattle.nfg_decode.specs.Mark.{MayBeMark, Reduces}
+
+-- the codes that the piece adds to those of the bytes before it stand at the end of the list now
+abbrev pub GivesNext : Encoding → List ℕ → List ℕ → List ℕ → List ℕ → Type 0
+GivesNext e bytes piece old new = (more : List ℕ) × (new ≡ old ++ more) × (decoded_prefix e (bytes ++ piece) ≡ decoded_prefix e bytes ++ more)
+
+-- the mark is still to come: all of the bytes are held
+pub record IsBeforeMark (s : State) (e : Encoding) (bytes : List ℕ) : Type 0 where
+  pub encoding : e ≡ Utf16
+  pub held : bytes ≡ bytes_of s.tail
+  pub mark : MayBeMark (bytes_of s.tail)
+  pub settled : s.settled ≡ 0
+
+-- behind what is no part of the text, the front of the body is the text, and the rest is unfinished
+pub record IsBetween (settled : ℕ) (e : Encoding) (bytes : List ℕ) (form : Form) (tail rest : List ℕ) : Type 0 where
+  pub start : ℕ
+  pub front : List ℕ
+  pub text : List ℕ
+  pub reduces : Reduces e bytes (as_encoding form) (front ++ (tail ++ rest)) start
+  pub whole : decode (as_encoding form) front ≡ Ok text
+  pub unfinished : IsUnfinished (as_encoding form) tail
+  pub place : settled ≡ start + length front
+
+-- a stream in this state has read these bytes, and they may still become a text
+abbrev pub IsOpen : State → Encoding → List ℕ → Type 0
+IsOpen s e bytes = MatchOption s.form (IsBeforeMark s e bytes) (λ form. IsBetween s.settled e bytes form (bytes_of s.tail) [])
+
+-- the piece can be read
+abbrev pub IsReady : State → Encoding → List ℕ → List ℕ → Opening → Type 0
+IsReady s e bytes piece o = MatchOption o.form
+    (IsBeforeMark (record { form = o.form; settled = s.settled; tail = o.tail }) e (bytes ++ piece) × (decoded_prefix e bytes ≡ []))
+    (λ form. (b : IsBetween (s.settled + o.mark) e (bytes ++ piece) form (bytes_of o.tail) (drop o.used piece)) × (decoded_prefix e bytes ≡ b.text))
+
+-- the piece was read
+pub record HasAdvanced (e : Encoding) (bytes piece old new : List ℕ) (next : Next) : Type 0 where
+  pub given : GivesNext e bytes piece old new
+  pub state : MatchOption next.malformed (IsOpen next.state e (bytes ++ piece)) (λ at. IsAlreadyMalformed e (bytes ++ piece) at)
