@@ -3,6 +3,7 @@ pub mod MarkLemmas
 pub mod PrefixLemmas
 pub mod ReadingLemmas
 pub mod ReadsLemmas
+pub mod StateLemmas
 pub mod Stepwise
 pub mod Utf16Laws
 pub mod Utf16Tails
