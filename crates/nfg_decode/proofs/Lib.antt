@@ -5,6 +5,7 @@ pub mod ReadingLemmas
 pub mod ReadsLemmas
 pub mod StateLemmas
 pub mod Stepwise
+pub mod StreamLemmas
 pub mod Utf16Laws
 pub mod Utf16Tails
 pub mod Utf8Laws

@@ -214,3 +214,42 @@ reduces_more e r b body piece k red = record {
   decodes = λ more. ap (decode e) (append_assoc b piece more) ∙ red.decodes (piece ++ more) ∙ ap (λ l. after_text [] k (decode r l)) (sym (append_assoc body piece more));
   prefix = λ more. ap (decoded_prefix e) (append_assoc b piece more) ∙ red.prefix (piece ++ more) ∙ ap (decoded_prefix r) (sym (append_assoc body piece more));
 }
+
+-- ---- where decoding fails there is a text before
+
+pub record FaultFront (e : Encoding) (b : List ℕ) (p : ℕ) : Type 0 where
+  pub within : p ≤ length b
+  pub text : List ℕ
+  pub front : decode e (take p b) ≡ Ok text
+
+front_of : (e : Encoding) (b : List ℕ) (p : ℕ) → IsStepwise (decode e) → decode e b ≡ Err p → FaultFront e b p
+front_of e b p stepwise d =
+    let k : Breaks (decode e) stepwise b p = breaks (decode e) stepwise b p d in
+    record { within = k.within; text = k.text; front = k.front }
+
+front_in_utf16 : (b : List ℕ) (p : ℕ) → Marks b → decode Utf16 b ≡ Err p → FaultFront Utf16 b p
+front_in_utf16 b p (is_marked o rest is) d =
+    let two = length-mark o in
+    let len = ap length is ∙ length-append (mark o) rest in
+    let f : Fails 2 (decode_utf16 o rest) p = fails [] 2 (decode_utf16 o rest) p (sym (marked o rest) ∙ ap (decode Utf16) (sym is) ∙ d) in
+    let joined = f.joined in
+    let k : Breaks (decode_utf16 o) (utf16_stepwise o) rest f.place = breaks (decode_utf16 o) (utf16_stepwise o) rest f.place f.is in
+    let within = k.within in
+    let apart : length (mark o) + f.place ≡ p = omega arith in
+    let cut : take p b ≡ mark o ++ take f.place rest = (λ i. take (sym apart i) (is i)) ∙ take-append-add (mark o) rest f.place in
+    record {
+      within = omega arith;
+      text = k.text;
+      front = ap (decode Utf16) cut ∙ marked o (take f.place rest) ∙ ap (λ r. after_text [] 2 r) k.front;
+    }
+front_in_utf16 b p (is_plain u) d =
+    let k : Breaks (decode_utf16 Big) (utf16_stepwise Big) b p = breaks (decode_utf16 Big) (utf16_stepwise Big) b p (sym (unmarked b u) ∙ d) in
+    record { within = k.within; text = k.text; front = unmarked_front b p u ∙ k.front }
+
+pub fault_front : (e : Encoding) (b : List ℕ) (p : ℕ) → decode e b ≡ Err p → FaultFront e b p
+unfolding decode
+fault_front Utf8 b p d = front_of Utf8 b p utf8_stepwise d
+fault_front Utf16 b p d = front_in_utf16 b p (marks_of b) d
+fault_front Utf16Le b p d = front_of Utf16Le b p (utf16_stepwise Little) d
+fault_front Utf16Be b p d = front_of Utf16Be b p (utf16_stepwise Big) d
+fault_front Latin1 b p d = cc

@@ -1,5 +1,5 @@
 -- From one state of a stream to the next.
-use Rattle.std.proofs.Common.{◌≡◌, ℕ, zero, suc, ◌+◌, ◌-◌, ◌<◌, ◌≤◌, ◌⊎◌, inl, inr, Bool, true, false, List, [], ◌∷◌, ◌++◌, length, take, drop, refl, sym, ap, ◌∙◌, subst, arith, length-append, length-take, length-drop, take-append-drop, append_assoc}
+use Rattle.std.proofs.Common.{◌≡◌, ℕ, zero, suc, ◌+◌, ◌-◌, ◌*◌, ◌<◌, ◌≤◌, ◌⊎◌, inl, inr, Bool, true, false, List, [], ◌∷◌, ◌++◌, length, take, drop, refl, sym, ap, ◌∙◌, subst, arith, length-append, length-take, length-drop, take-append-drop, append_assoc}
 use Rattle.std.proofs.lemmas.List.{append-nil, length-take-le}
 use Rattle.std.proofs.lemmas.Bool.{MatchBool-at_true, MatchBool-at_false}
 use Rattle.std.specs.Prelude.{Ok, Err, Option, Some, None, MatchBool, MatchOption}
@@ -13,7 +13,7 @@ use Rattle.nfg_decode.specs.declared.mark.Opening.{Opening}
 use Rattle.nfg_decode.specs.declared.state.State.{State}
 use Rattle.nfg_decode.specs.declared.state.Next.{Next}
 use Rattle.nfg_decode.specs.Decoded.{Decoded, after_text}
-use Rattle.nfg_decode.specs.Utf16.{decode_utf16}
+use Rattle.nfg_decode.specs.Utf16.{unit, decode_utf16}
 use Rattle.nfg_decode.specs.Encoding.{decode, decoded_prefix, AreBytes, IsAlreadyMalformed}
 use Rattle.nfg_decode.specs.Reads.{IsUnfinished, Reads}
 use Rattle.nfg_decode.specs.Reading.{as_encoding, ReadsOn}
@@ -21,9 +21,10 @@ use Rattle.nfg_decode.specs.Tail.{bytes_of}
 use Rattle.nfg_decode.specs.Mark.{MayBeMark, Opens, Reduces}
 use Rattle.nfg_decode.specs.State.{GivesNext, IsBeforeMark, IsBetween, IsOpen, IsReady, HasAdvanced}
 use Rattle.nfg_decode.proofs.Stepwise.{after_text-after_text}
-use Rattle.nfg_decode.proofs.ReadsLemmas.{AreBytes-nil, IsUnfinished-nil, decode-nil}
+use Rattle.nfg_decode.proofs.ReadsLemmas.{AreBytes-nil, IsUnfinished-nil, decode-nil, one_byte}
+use Rattle.nfg_decode.proofs.Utf16Tails.{one_unit, not_surrogate}
 use Rattle.nfg_decode.proofs.ReadingLemmas.{form_stepwise}
-use Rattle.nfg_decode.proofs.PrefixLemmas.{one_unmarked, unmarked_front, prefix_of_text, prefix_of_fault, behind_text, prefix_of_open, reduces_same, reduces_more}
+use Rattle.nfg_decode.proofs.PrefixLemmas.{one_unmarked, two_unmarked, unmarked_front, prefix_of_text, prefix_of_fault, behind_text, prefix_of_open, reduces_same, reduces_more}
 
 -- before the first byte
 pub first_is : (e : Encoding) (form : Form) → as_encoding form ≡ e → IsBetween 0 e [] form [] []
@@ -212,3 +213,100 @@ module _ (settled : ℕ) (e : Encoding) (bytes piece : List ℕ) (form : Form) (
         given = given_by (inr (ap (decode (as_encoding form)) (sym (append-nil (drop at body))) ∙ bad [] AreBytes-nil));
         state = fault_stays n is bad;
       }
+
+-- ---- where the form is known
+
+pub between : (s : State) (e : Encoding) (bytes piece : List ℕ) (o : Opening) (f : Form) → o.form ≡ Some f → IsReady s e bytes piece o
+    → (b : IsBetween (s.settled + o.mark) e (bytes ++ piece) f (bytes_of o.tail) (drop o.used piece)) × (decoded_prefix e bytes ≡ b.text)
+between s e bytes piece o f is ready =
+    subst (λ x. MatchOption x
+    (IsBeforeMark (record { form = o.form; settled = s.settled; tail = o.tail }) e (bytes ++ piece) × (decoded_prefix e bytes ≡ []))
+    (λ form. (b : IsBetween (s.settled + o.mark) e (bytes ++ piece) form (bytes_of o.tail) (drop o.used piece)) × (decoded_prefix e bytes ≡ b.text))) is ready
+
+-- ---- the end
+
+module _ (settled : ℕ) (e : Encoding) (bytes : List ℕ) (form : Form) (held : List ℕ) (h : IsBetween settled e bytes form held []) where
+  decode_between : decode e bytes ≡ after_text [] h.start (after_text h.text (length h.front) (decode (as_encoding form) held))
+  decode_between =
+      let r = as_encoding form in
+      let regrouped : (h.front ++ (held ++ [])) ++ [] ≡ h.front ++ held = append-nil (h.front ++ (held ++ [])) ∙ ap (λ l. h.front ++ l) (append-nil held) in
+      ap (decode e) (sym (append-nil bytes))
+      ∙ h.reduces.decodes []
+      ∙ ap (λ l. after_text [] h.start (decode r l)) regrouped
+      ∙ ap (λ d. after_text [] h.start d) (behind_text r (form_stepwise form) h.front h.text [] h.whole held)
+
+  end_between : held ≡ [] → decode e bytes ≡ Ok (decoded_prefix e bytes)
+  end_between none =
+      decode_between
+      ∙ ap (λ l. after_text [] h.start (after_text h.text (length h.front) (decode (as_encoding form) l))) none
+      ∙ ap (λ d. after_text [] h.start (after_text h.text (length h.front) d)) (decode-nil (as_encoding form))
+      ∙ ap (λ l. Ok l) (append-nil h.text ∙ sym (text_between settled e bytes [] form held h))
+
+  cut_between : 0 < length held → decode e bytes ≡ Err settled
+  cut_between some = elim (h.unfinished.cut) [
+    | inl none ↦ absurd (omega (arith, ap length none))
+    | inr cut ↦
+        let place = h.place in
+        decode_between ∙ ap (λ d. after_text [] h.start (after_text h.text (length h.front) d)) cut ∙ ap (λ n. Err n) (omega arith)
+  ]
+
+  mended_between : (at : ℕ) → IsAlreadyMalformed e bytes at → ⊥
+  mended_between at bad =
+      let u = h.unfinished in
+      let r = as_encoding form in
+      let regrouped : (h.front ++ (held ++ [])) ++ u.more ≡ h.front ++ (held ++ u.more) =
+      ap (λ l. (h.front ++ l) ++ u.more) (append-nil held) ∙ append_assoc h.front held u.more in
+      let whole : decode e (bytes ++ u.more) ≡ Ok (h.text ++ u.text) =
+      h.reduces.decodes u.more
+      ∙ ap (λ l. after_text [] h.start (decode r l)) regrouped
+      ∙ ap (λ d. after_text [] h.start d)
+      (behind_text r (form_stepwise form) h.front h.text [] h.whole (held ++ u.more) ∙ ap (λ d. after_text h.text (length h.front) d) u.completed) in
+      let broken = bad u.more u.bytes in
+      cc
+
+end_before : (b : List ℕ) → MayBeMark b → b ≡ [] → decode Utf16 b ≡ Ok (decoded_prefix Utf16 b)
+end_before b m none =
+    ap (decode Utf16) none ∙ decode-nil Utf16 ∙ ap (λ l. Ok l) (sym (prefix_before b m))
+
+cut_before : (b : List ℕ) → MayBeMark b → 0 < length b → decode Utf16 b ≡ Err 0
+unfolding decode_utf16
+cut_before [] m some = absurd (omega arith)
+cut_before (x ∷ []) m some = unmarked_front (x ∷ []) 1 (one_unmarked x)
+cut_before (x ∷ y ∷ b) m some = absurd m
+
+mended_before : (b : List ℕ) → MayBeMark b → (at : ℕ) → IsAlreadyMalformed Utf16 b at → ⊥
+mended_before [] m at bad =
+    let whole = decode-nil Utf16 in
+    let broken = bad [] AreBytes-nil in
+    cc
+mended_before (x ∷ []) m at bad =
+    let whole : decode Utf16 (x ∷ 0 ∷ []) ≡ Ok (unit Big x 0 ∷ []) =
+    unmarked_front (x ∷ 0 ∷ []) 2 (two_unmarked x 0 [] (λ _ n. absurd (omega arith)) (λ _ n. absurd (omega arith)))
+    ∙ one_unit Big x 0 (not_surrogate (x * 256 + 0) (inr (omega arith))) in
+    let broken = bad (0 ∷ []) (one_byte 0 (omega arith)) in
+    cc
+mended_before (x ∷ y ∷ b) m at bad = absurd m
+
+open_cases : (form : Option Form) (settled : ℕ) (t : Tail) (e : Encoding) (bytes : List ℕ) → IsOpen (record { form = form; settled = settled; tail = t }) e bytes
+    → ((bytes_of t ≡ [] → decode e bytes ≡ Ok (decoded_prefix e bytes)) × (0 < length (bytes_of t) → decode e bytes ≡ Err settled))
+    × ((at : ℕ) → IsAlreadyMalformed e bytes at → ⊥)
+open_cases None settled t e bytes h =
+    let Q : Encoding → List ℕ → Type 0 = λ x b. ((bytes_of t ≡ [] → decode x b ≡ Ok (decoded_prefix x b)) × (0 < length (bytes_of t) → decode x b ≡ Err settled)) × ((at : ℕ) → IsAlreadyMalformed x b at → ⊥) in
+    let here : Q Utf16 (bytes_of t) = (
+      (end_before (bytes_of t) h.mark, λ some. cut_before (bytes_of t) h.mark some ∙ ap (λ n. Err n) (sym h.settled)),
+      mended_before (bytes_of t) h.mark,
+    ) in
+    subst (λ x. Q x bytes) (sym h.encoding) (subst (λ b. Q Utf16 b) (sym h.held) here)
+open_cases (Some form) settled t e bytes h = (
+  (end_between settled e bytes form (bytes_of t) h, cut_between settled e bytes form (bytes_of t) h),
+  mended_between settled e bytes form (bytes_of t) h,
+)
+
+pub open_end : (s : State) (e : Encoding) (bytes : List ℕ) → IsOpen s e bytes → bytes_of s.tail ≡ [] → decode e bytes ≡ Ok (decoded_prefix e bytes)
+open_end s e bytes h = (open_cases s.form s.settled s.tail e bytes h).0.0
+
+pub open_cut : (s : State) (e : Encoding) (bytes : List ℕ) → IsOpen s e bytes → 0 < length (bytes_of s.tail) → decode e bytes ≡ Err s.settled
+open_cut s e bytes h = (open_cases s.form s.settled s.tail e bytes h).0.1
+
+pub open_mends : (s : State) (e : Encoding) (bytes : List ℕ) → IsOpen s e bytes → (at : ℕ) → IsAlreadyMalformed e bytes at → ⊥
+open_mends s e bytes h = (open_cases s.form s.settled s.tail e bytes h).1

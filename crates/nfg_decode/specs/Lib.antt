@@ -1,9 +1,11 @@
+pub mod Answer
 pub mod Decoded
 pub mod Encoding
 pub mod Mark
 pub mod Reading
 pub mod Reads
 pub mod State
+pub mod Stream
 pub mod Tail
 pub mod Utf16
 pub mod Utf8

@@ -8,8 +8,10 @@ mod part;
 mod reach;
 mod reading;
 mod state;
+mod stream;
 mod tail;
 mod utf16;
 mod utf8;
 
 pub use encoding::{DecodeError, Encoding};
+pub use stream::ByteStream;
