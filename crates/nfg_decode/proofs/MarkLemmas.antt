@@ -1,11 +1,11 @@
 -- The byte order mark over the first pieces.
-use Rattle.std.proofs.Common.{◌≡◌, ℕ, ◌+◌, ◌-◌, ◌*◌, ◌<◌, ◌≤◌, inl, inr, List, [], ◌∷◌, ◌++◌, length, get_or, take, drop, refl, sym, ap, ◌∙◌, subst, arith, length-append, length-take, take-append-drop, append_assoc}
+use Rattle.std.proofs.Common.{◌≡◌, ℕ, ◌+◌, ◌-◌, ◌*◌, ◌<◌, ◌≤◌, inr, List, [], ◌∷◌, ◌++◌, length, get_or, take, drop, refl, sym, ap, ◌∙◌, subst, arith, length-take, take-append-drop, append_assoc}
 use Rattle.std.proofs.lemmas.List.{take_all, take-take}
 use Rattle.std.proofs.Math.Seq.{drop-append-add}
-use Rattle.std.specs.Prelude.{Err, Some, None}
+use Rattle.std.specs.Prelude.{Some, None}
 use Rattle.nfg_decode.specs.declared.encoding.Encoding.TheVariants.{Utf16}
 use Rattle.nfg_decode.specs.declared.utf16.ByteOrder.{ByteOrder}
-use Rattle.nfg_decode.specs.declared.utf16.ByteOrder.TheVariants.{Little, Big}
+use Rattle.nfg_decode.specs.declared.utf16.ByteOrder.TheVariants.{Big}
 use Rattle.nfg_decode.specs.declared.reading.Form.TheVariants as forms
 use Rattle.nfg_decode.specs.declared.tail.Tail.{Tail}
 use Rattle.nfg_decode.specs.declared.tail.Tail.TheVariants.{Empty}

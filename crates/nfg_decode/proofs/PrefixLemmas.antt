@@ -1,22 +1,19 @@
 -- The longest front that is a text.
-use Rattle.std.proofs.Common.{◌≡◌, ℕ, zero, suc, ◌+◌, ◌-◌, ◌<◌, ◌≤◌, ◌⊎◌, inl, inr, Bool, true, false, cond, List, [], ◌∷◌, ◌++◌, length, take, drop, refl, sym, ap, ◌∙◌, subst, arith, length-append, length-take, length-drop, take-append-drop, append_assoc, ne_eqb}
-use Rattle.std.proofs.lemmas.List.{append-nil, take_all, take_at, take-take}
+use Rattle.std.proofs.Common.{◌≡◌, ℕ, zero, suc, ◌+◌, ◌-◌, ◌<◌, ◌≤◌, ◌⊎◌, inl, inr, true, false, cond, List, [], ◌∷◌, ◌++◌, length, take, refl, sym, ap, ◌∙◌, arith, length-append, append_assoc, ne_eqb}
+use Rattle.std.proofs.lemmas.List.{append-nil, take_all, take_at}
 use Rattle.std.proofs.lemmas.Bool.{cases_lt, cases_eq, and_left, and_right}
-use Rattle.std.proofs.Math.Seq.{take-append-add, drop-append-add}
-use Rattle.std.specs.Prelude.{nat_eq, Ok, Err, is_ok, Result}
+use Rattle.std.proofs.Math.Seq.{take-append-add}
+use Rattle.std.specs.Prelude.{nat_eq, Ok, Err, is_ok}
 use Rattle.std.specs.Result.{result_unwrap_or}
-use Rattle.std.specs.List.{starts_with}
 use Rattle.nfg_decode.specs.declared.encoding.Encoding.{Encoding}
 use Rattle.nfg_decode.specs.declared.encoding.Encoding.TheVariants.{Utf8, Utf16, Utf16Le, Utf16Be, Latin1}
 use Rattle.nfg_decode.specs.declared.utf16.ByteOrder.{ByteOrder}
 use Rattle.nfg_decode.specs.declared.utf16.ByteOrder.TheVariants.{Little, Big}
 use Rattle.nfg_decode.specs.Decoded.{Decoded, after_text}
 use Rattle.nfg_decode.specs.Utf16.{mark, decode_utf16, decode_marked}
-use Rattle.nfg_decode.specs.Encoding.{decode, text_len_up_to, decoded_prefix, AreBytes, IsAlreadyMalformed}
+use Rattle.nfg_decode.specs.Encoding.{decode, text_len_up_to, decoded_prefix}
 use Rattle.nfg_decode.specs.Reads.{utf16_form}
 use Rattle.nfg_decode.specs.Mark.{IsUnmarked, Reduces}
-use Rattle.nfg_decode.proofs.ReadsLemmas.{decode-nil}
-use Rattle.nfg_decode.proofs.ReadingLemmas.{latin1_stepwise}
 use Rattle.nfg_decode.proofs.Stepwise.{Fails, fails, Breaks, breaks, joins, IsStepwise, malformed_past, after_text-nil}
 use Rattle.nfg_decode.proofs.Utf8Laws.{utf8_stepwise}
 use Rattle.nfg_decode.proofs.Utf16Laws.{utf16_stepwise}

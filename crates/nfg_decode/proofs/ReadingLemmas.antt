@@ -1,21 +1,20 @@
 -- Reading on over a seam of at most four bytes.
-use Rattle.std.proofs.Common.{◌≡◌, ℕ, zero, suc, ◌+◌, ◌-◌, ◌<◌, ◌≤◌, ◌⊎◌, inl, inr, min, Bool, true, false, List, [], ◌∷◌, ◌++◌, length, get_or, take, drop, refl, sym, ap, ◌∙◌, subst, arith, length-append, length-take, length-drop, take-append-drop, append_assoc, drop-drop}
-use Rattle.std.proofs.lemmas.List.{append-nil, take_all, take-take, take-append-le, drop-append-le, get_or-drop, get_or_default, get_or_append_left, get_or-append_right}
+use Rattle.std.proofs.Common.{◌≡◌, ℕ, ◌+◌, ◌-◌, ◌<◌, ◌≤◌, inl, inr, Bool, true, false, List, [], ◌∷◌, ◌++◌, length, get_or, take, drop, refl, sym, ap, ◌∙◌, subst, arith, length-append, length-take, length-drop, take-append-drop, append_assoc, drop-drop}
+use Rattle.std.proofs.lemmas.List.{take_all, take-take, take-append-le, get_or-drop, get_or_default, get_or-append_right}
 use Rattle.std.proofs.lemmas.Bool.{cases_lt, MatchBool-at_false}
 use Rattle.std.proofs.Math.Seq.{drop-append-add}
-use Rattle.std.specs.Prelude.{Ok, Err, MatchBool}
+use Rattle.std.specs.Prelude.{Ok, MatchBool}
 use Rattle.nfg_decode.specs.declared.encoding.Encoding.{Encoding}
-use Rattle.nfg_decode.specs.declared.encoding.Encoding.TheVariants.{Utf8, Utf16, Utf16Le, Utf16Be, Latin1}
+use Rattle.nfg_decode.specs.declared.encoding.Encoding.TheVariants.{Latin1}
 use Rattle.nfg_decode.specs.declared.utf16.ByteOrder.TheVariants.{Little, Big}
 use Rattle.nfg_decode.specs.declared.reading.Form.{Form}
 use Rattle.nfg_decode.specs.declared.reading.Form.TheVariants as forms
-use Rattle.nfg_decode.specs.Decoded.{Decoded, after_text}
 use Rattle.nfg_decode.specs.Encoding.{decode, AreBytes, IsAlreadyMalformed}
 use Rattle.nfg_decode.specs.Reads.{IsUnfinished, Reads}
 use Rattle.nfg_decode.specs.declared.reading.Reading.{Reading}
 use Rattle.nfg_decode.specs.Reading.{as_encoding, ReadsOn}
 use Rattle.nfg_decode.proofs.ReadsLemmas.{AreBytes-append}
-use Rattle.nfg_decode.proofs.Stepwise.{First, empty, begins, none, IsStepwise, two_texts, none_shorter}
+use Rattle.nfg_decode.proofs.Stepwise.{First, empty, begins, IsStepwise, two_texts, none_shorter}
 use Rattle.nfg_decode.proofs.Utf8Laws.{utf8_stepwise}
 use Rattle.nfg_decode.proofs.Utf16Laws.{utf16_stepwise}
 

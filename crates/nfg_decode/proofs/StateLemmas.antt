@@ -1,26 +1,24 @@
 -- From one state of a stream to the next.
-use Rattle.std.proofs.Common.{◌≡◌, ℕ, zero, suc, ◌+◌, ◌-◌, ◌*◌, ◌<◌, ◌≤◌, ◌⊎◌, inl, inr, Bool, true, false, List, [], ◌∷◌, ◌++◌, length, take, drop, refl, sym, ap, ◌∙◌, subst, arith, length-append, length-take, length-drop, take-append-drop, append_assoc}
+use Rattle.std.proofs.Common.{◌≡◌, ℕ, ◌+◌, ◌*◌, ◌<◌, ◌⊎◌, inl, inr, true, false, List, [], ◌∷◌, ◌++◌, length, take, drop, refl, sym, ap, ◌∙◌, subst, arith, length-append, take-append-drop, append_assoc}
 use Rattle.std.proofs.lemmas.List.{append-nil, length-take-le}
 use Rattle.std.proofs.lemmas.Bool.{MatchBool-at_true, MatchBool-at_false}
-use Rattle.std.specs.Prelude.{Ok, Err, Option, Some, None, MatchBool, MatchOption}
+use Rattle.std.specs.Prelude.{Ok, Err, Option, Some, None, MatchOption}
 use Rattle.nfg_decode.specs.declared.encoding.Encoding.{Encoding}
 use Rattle.nfg_decode.specs.declared.encoding.Encoding.TheVariants.{Utf16}
-use Rattle.nfg_decode.specs.declared.utf16.ByteOrder.TheVariants.{Little, Big}
+use Rattle.nfg_decode.specs.declared.utf16.ByteOrder.TheVariants.{Big}
 use Rattle.nfg_decode.specs.declared.reading.Form.{Form}
 use Rattle.nfg_decode.specs.declared.reading.Reading.{Reading}
 use Rattle.nfg_decode.specs.declared.tail.Tail.{Tail}
 use Rattle.nfg_decode.specs.declared.mark.Opening.{Opening}
 use Rattle.nfg_decode.specs.declared.state.State.{State}
-use Rattle.nfg_decode.specs.declared.state.Next.{Next}
-use Rattle.nfg_decode.specs.Decoded.{Decoded, after_text}
+use Rattle.nfg_decode.specs.Decoded.{after_text}
 use Rattle.nfg_decode.specs.Utf16.{unit, decode_utf16}
-use Rattle.nfg_decode.specs.Encoding.{decode, decoded_prefix, AreBytes, IsAlreadyMalformed}
-use Rattle.nfg_decode.specs.Reads.{IsUnfinished, Reads}
+use Rattle.nfg_decode.specs.Encoding.{decode, decoded_prefix, IsAlreadyMalformed}
+use Rattle.nfg_decode.specs.Reads.{IsUnfinished}
 use Rattle.nfg_decode.specs.Reading.{as_encoding, ReadsOn}
 use Rattle.nfg_decode.specs.Tail.{bytes_of}
 use Rattle.nfg_decode.specs.Mark.{MayBeMark, Opens, Reduces}
 use Rattle.nfg_decode.specs.State.{GivesNext, IsBeforeMark, IsBetween, IsOpen, IsReady, HasAdvanced}
-use Rattle.nfg_decode.proofs.Stepwise.{after_text-after_text}
 use Rattle.nfg_decode.proofs.ReadsLemmas.{AreBytes-nil, IsUnfinished-nil, decode-nil, one_byte}
 use Rattle.nfg_decode.proofs.Utf16Tails.{one_unit, not_surrogate}
 use Rattle.nfg_decode.proofs.ReadingLemmas.{form_stepwise}

@@ -1,14 +1,14 @@
 -- What a stream answers.
-use Rattle.std.proofs.Common.{◌≡◌, ℕ, ◌<◌, ◌≤◌, List, [], ◌++◌, length, get_or, take, refl, sym, ap, ◌∙◌, subst, arith, append_assoc}
+use Rattle.std.proofs.Common.{◌≡◌, ℕ, ◌<◌, List, [], ◌++◌, length, get_or, refl, sym, ap, ◌∙◌, subst, arith, append_assoc}
 use Rattle.std.proofs.lemmas.List.{append-nil, take_all, take-append-le, get_or_default}
-use Rattle.std.specs.Prelude.{Ok, Err, Option, Some, None, MatchOption}
+use Rattle.std.specs.Prelude.{Ok, Err, Some, None, MatchOption}
 use Rattle.nfg_decode.specs.declared.encoding.Encoding.{Encoding}
 use Rattle.nfg_decode.specs.declared.encoding.DecodeError.TheVariants.{Malformed, OutOfMemory}
 use Rattle.nfg_decode.specs.declared.state.State.{State}
 use Rattle.nfg_decode.specs.declared.state.Next.{Next}
 use Rattle.nfg_decode.specs.declared.stream.ByteStream.{ByteStream}
 use Rattle.nfg_decode.specs.Encoding.{decode, decoded_prefix, AreBytes, IsAlreadyMalformed}
-use Rattle.nfg_decode.specs.State.{IsOpen, HasAdvanced, GivesNext}
+use Rattle.nfg_decode.specs.State.{IsOpen, HasAdvanced}
 use Rattle.nfg_decode.specs.Stream.{HasRead, Feeds}
 use Rattle.nfg_decode.proofs.ReadsLemmas.{AreBytes-nil, AreBytes-append}
 use Rattle.nfg_decode.proofs.PrefixLemmas.{FaultFront, fault_front, prefix_of_fault}

@@ -1,13 +1,13 @@
 -- UTF-16 in either byte order goes by one sequence after another.
-use Rattle.std.proofs.Common.{◌≡◌, ℕ, zero, suc, ◌+◌, ◌<◌, ◌≤◌, ◌⊎◌, inl, inr, Bool, true, false, ◌&&◌, ◌||◌, List, [], ◌∷◌, ◌++◌, length, get_or, set, take, drop, refl, sym, ap, ◌∙◌, arith}
+use Rattle.std.proofs.Common.{◌≡◌, ℕ, ◌+◌, ◌<◌, ◌≤◌, ◌⊎◌, inl, inr, true, false, ◌&&◌, List, [], ◌∷◌, ◌++◌, length, get_or, set, take, drop, refl, sym, ap, ◌∙◌, arith}
 use Rattle.std.proofs.lemmas.Bool.{cases_Bool, and_parts, or_parts}
 use Rattle.std.proofs.lemmas.List.{append-nil, take_more_set}
 use Rattle.std.specs.Prelude.{Ok, Err, Option, Some, None, MatchOption, IfSome, IfNone}
 use Rattle.std.specs.Char.Utf16.{is_high_surrogate, is_low_surrogate, surrogate_pair_char}
 use Rattle.nfg_decode.specs.declared.utf16.ByteOrder.{ByteOrder}
-use Rattle.nfg_decode.specs.Decoded.{Decoded, after_text}
-use Rattle.nfg_decode.specs.Utf16.{unit, is_surrogate, after_lone_unit, decode_utf16}
-use Rattle.nfg_decode.proofs.Stepwise.{Begins, First, empty, begins, none, IsStepwise, two_texts}
+use Rattle.nfg_decode.specs.Decoded.{after_text}
+use Rattle.nfg_decode.specs.Utf16.{unit, is_surrogate, decode_utf16}
+use Rattle.nfg_decode.proofs.Stepwise.{First, empty, begins, none, IsStepwise, two_texts}
 
 -- a unit that is no surrogate is its own code point, whatever follows
 pub lone : (o : ByteOrder) (x y : ℕ) → is_surrogate (unit o x y) ≡ false

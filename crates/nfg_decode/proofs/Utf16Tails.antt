@@ -1,12 +1,11 @@
 -- Where UTF-16 breaks off: what more bytes can mend, and what they cannot.
-use Rattle.std.proofs.Common.{◌≡◌, ℕ, zero, suc, ◌+◌, ◌*◌, ◌<◌, ◌≤◌, ◌⊎◌, inl, inr, Bool, true, false, not, ◌&&◌, ◌||◌, List, [], ◌∷◌, ◌++◌, length, get_or, take, drop, refl, sym, ap, ◌∙◌, arith, le-leb, leb-true, leb-false, lt-ltb, le-ltb, ltb-true, ltb-false}
+use Rattle.std.proofs.Common.{◌≡◌, ℕ, ◌+◌, ◌*◌, ◌<◌, ◌≤◌, ◌⊎◌, inl, inr, Bool, true, false, not, ◌&&◌, List, [], ◌∷◌, ◌++◌, length, get_or, take, drop, refl, sym, ap, ◌∙◌, arith, le-leb, leb-true, leb-false, lt-ltb, le-ltb, ltb-true}
 use Rattle.std.proofs.lemmas.Bool.{cases_Bool, and_parts, and_cases, and_left, and_right, or_parts, or_cases, or_from, or_right, cases_lt, not-true, not-false, lt-leb, true≢false}
 use Rattle.std.proofs.lemmas.List.{get_or-drop}
 use Rattle.std.specs.Prelude.{Ok, Err, MatchBool}
 use Rattle.std.specs.Char.Utf16.{is_high_surrogate, is_low_surrogate, surrogate_pair_char}
 use Rattle.nfg_decode.specs.declared.utf16.ByteOrder.{ByteOrder}
 use Rattle.nfg_decode.specs.declared.utf16.ByteOrder.TheVariants.{Little, Big}
-use Rattle.nfg_decode.specs.Decoded.{Decoded, after_text}
 use Rattle.nfg_decode.specs.Utf16.{unit, is_surrogate, is_low_byte, is_surely_low, may_be_low, is_hopeless, decode_utf16}
 use Rattle.nfg_decode.specs.Encoding.{decode, AreBytes, IsAlreadyMalformed}
 use Rattle.nfg_decode.specs.Reads.{AppendsUnits, IsUnfinished, Reads, utf16_form}

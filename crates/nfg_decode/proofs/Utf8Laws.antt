@@ -1,16 +1,16 @@
 -- UTF-8 goes by one sequence after another.
-use Rattle.std.proofs.Common.{◌≡◌, ℕ, zero, suc, ◌+◌, ◌-◌, ◌<◌, ◌≤◌, ◌⊎◌, inl, inr, Bool, true, false, cond, List, [], ◌∷◌, ◌++◌, length, take, drop, refl, sym, ap, ◌∙◌, subst, arith, length-append, length-take, length-drop, take-append-drop, append_assoc, eq-eqb, ne_eqb, eqb-true, IsUtf8}
+use Rattle.std.proofs.Common.{◌≡◌, ℕ, zero, suc, ◌+◌, ◌<◌, ◌≤◌, inl, inr, true, List, [], ◌∷◌, ◌++◌, length, take, drop, refl, sym, ap, ◌∙◌, subst, arith, length-append, length-take, take-append-drop, append_assoc, eq-eqb, ne_eqb, IsUtf8}
 use Rattle.std.proofs.lemmas.Bool.{cases_lt, cases_eq, cond_both, and_parts}
-use Rattle.std.proofs.lemmas.List.{append-nil, take_all, take_at, drop_at, drop-append-le, take-append-le}
-use Rattle.std.proofs.lemmas.Str.{IsUtf8-append, IsUtf8-nil, IsUtf8-encode, IsUtf8-from_is_utf8, is_utf8-from_IsUtf8, utf8_valid_len_le, utf8_valid_len-IsUtf8, utf8_valid_len-IsValidUpTo, chars-append, chars-encodes, chars-nil, len_utf8_bounds, length-encode}
+use Rattle.std.proofs.lemmas.List.{append-nil, take_all, take_at, drop_at}
+use Rattle.std.proofs.lemmas.Str.{IsUtf8-append, IsUtf8-nil, IsUtf8-encode, IsUtf8-from_is_utf8, is_utf8-from_IsUtf8, utf8_valid_len_le, utf8_valid_len-IsUtf8, utf8_valid_len-IsValidUpTo, chars-append, chars-encodes, len_utf8_bounds, length-encode}
 use Rattle.std.specs.Prelude.{Ok, Err}
 use Rattle.std.specs.Str.{IsValidUpTo, is_utf8, chars}
 use Rattle.std.specs.Str.Lossy.{valid_len_up_to, utf8_valid_len}
-use Rattle.simdutf8.proofs.Parts.{valid_after, front_and_rest}
+use Rattle.simdutf8.proofs.Parts.{valid_after}
 use lib.Utf8.{scalar, scalars, encode, encodes}
-use Rattle.nfg_decode.specs.Decoded.{Decoded, after_text}
+use Rattle.nfg_decode.specs.Decoded.{after_text}
 use Rattle.nfg_decode.specs.Utf8.{decode_utf8}
-use Rattle.nfg_decode.proofs.Stepwise.{Begins, First, empty, begins, none, IsStepwise}
+use Rattle.nfg_decode.proofs.Stepwise.{First, empty, begins, none, IsStepwise}
 
 -- the front that std's word finds is UTF-8
 front_up_to : (bs : List ℕ) (n : ℕ) → IsUtf8 (take (valid_len_up_to bs n) bs)

@@ -1,22 +1,21 @@
 -- Where UTF-8 breaks off: what more bytes can mend, and what they cannot.
-use Rattle.std.proofs.Common.{◌≡◌, ℕ, zero, suc, ◌+◌, ◌-◌, ◌<◌, ◌≤◌, ◌⊎◌, inl, inr, Bool, true, false, cond, List, [], ◌∷◌, ◌++◌, length, take, drop, refl, sym, ap, ◌∙◌, subst, arith, le-leb, leb-true, le-ltb, lt-ltb, ne_eqb, eqb-true, length-append, length-take, append_assoc, IsUtf8}
+use Rattle.std.proofs.Common.{◌≡◌, ℕ, suc, ◌+◌, ◌-◌, ◌<◌, ◌≤◌, ◌⊎◌, inl, inr, Bool, true, false, cond, List, [], ◌∷◌, ◌++◌, length, take, refl, sym, ap, ◌∙◌, subst, arith, le-leb, leb-true, le-ltb, ne_eqb, length-append, length-take, IsUtf8}
 use Rattle.std.proofs.lemmas.Bool.{cases_lt, cond_both, and_parts}
-use Rattle.std.proofs.lemmas.List.{take-append-le, take_all}
+use Rattle.std.proofs.lemmas.List.{take-append-le}
 use Rattle.std.proofs.Math.Seq.{take-append-add}
 use Rattle.std.proofs.lemmas.Str.{utf8_valid_len_le}
-use Rattle.std.specs.Prelude.{◌==◌, nat_lt, Ok, Err, Option, Some, None, MatchBool, is_some}
+use Rattle.std.specs.Prelude.{◌==◌, Ok, Err, Option, Some, None}
 use Rattle.std.specs.Int.{is_in_range}
 use Rattle.std.specs.Str.{chars}
 use Rattle.std.specs.Str.Lossy.{utf8_valid_len, utf8_error_len, second_byte_min, second_byte_max}
-use Rattle.simdutf8.specs.Steps.{IsContinuation, IsClosed, least_after, most_after, Step, first, second, later, StepsThen}
+use Rattle.simdutf8.specs.Steps.{IsContinuation, IsClosed, least_after, most_after, Step, first, second, later}
 use Rattle.simdutf8.proofs.Chars.{least_is, most_is, StepsThen-IsUtf8}
 use Rattle.nfg_decode.specs.declared.encoding.Encoding.TheVariants.{Utf8}
-use Rattle.nfg_decode.specs.Decoded.{Decoded}
 use Rattle.nfg_decode.specs.Utf8.{decode_utf8}
-use Rattle.nfg_decode.specs.Encoding.{decode, AreBytes, IsAlreadyMalformed}
-use Rattle.nfg_decode.specs.Reads.{IsUnfinished, Reads}
+use Rattle.nfg_decode.specs.Encoding.{decode, AreBytes}
+use Rattle.nfg_decode.specs.Reads.{IsUnfinished}
 use Rattle.nfg_decode.proofs.ReadsLemmas.{IsUnfinished-nil, one_byte, two_bytes, three_bytes}
-use Rattle.nfg_decode.proofs.Utf8Laws.{valid_front, none_longer, decode_utf8_text, utf8_stepwise}
+use Rattle.nfg_decode.proofs.Utf8Laws.{valid_front, none_longer, decode_utf8_text}
 
 -- the place is the length of the longest front that is UTF-8
 valid_len_at : (bs : List ℕ) (p : ℕ) → decode_utf8 bs ≡ Err p → utf8_valid_len bs ≡ p

@@ -1,13 +1,13 @@
 -- The code points of a text, part by part.
-use Rattle.std.proofs.Common.{◌≡◌, ℕ, ◌+◌, ◌<◌, ◌≤◌, inl, inr, false, List, [], ◌∷◌, ◌++◌, length, set, take, drop, refl, sym, ap, ◌∙◌, subst, arith, length-append, length-set, take-append-drop, append_assoc, IsUtf8, IsCharBoundary}
-use Rattle.std.proofs.lemmas.List.{append-nil, take_more_set, take_all}
-use Rattle.std.proofs.lemmas.Str.{chars_past_char, IsUtf8-past_char, length-encode, len_utf8_bounds, IsCharBoundary-past_char, chars-append, chars-nil, IsUtf8-take}
+use Rattle.std.proofs.Common.{◌≡◌, ℕ, ◌+◌, ◌<◌, ◌≤◌, inl, inr, false, List, [], ◌∷◌, ◌++◌, length, set, take, drop, refl, sym, ap, ◌∙◌, subst, arith, length-append, take-append-drop, append_assoc, IsUtf8, IsCharBoundary}
+use Rattle.std.proofs.lemmas.List.{take_more_set, take_all}
+use Rattle.std.proofs.lemmas.Str.{chars_past_char, length-encode, len_utf8_bounds, IsCharBoundary-past_char, chars-append, chars-nil, IsUtf8-take}
 use Rattle.std.proofs.lemmas.Bool.{cases_lt}
-use Rattle.std.specs.Prelude.{Ok, Err, Option, Some, None, MatchBool, is_some}
+use Rattle.std.specs.Prelude.{Err, Option, Some, None, MatchBool, is_some}
 use Rattle.std.specs.Char.{len_utf8}
 use Rattle.std.specs.Str.{chars}
 use Rattle.std.specs.Str.Lossy.{utf8_valid_len, utf8_error_len}
-use lib.Utf8.{scalars, encode, encodes}
+use lib.Utf8.{encode, encodes}
 use Rattle.nfg_decode.specs.declared.encoding.Encoding.TheVariants.{Utf8}
 use Rattle.nfg_decode.specs.Utf8.{decode_utf8}
 use Rattle.nfg_decode.specs.Encoding.{decode, IsAlreadyMalformed}

@@ -1,5 +1,5 @@
 -- What a stream answers (this project's own).
-use Rattle.std.specs.Prelude.{ℕ, ⊤, Result, Ok, Err}
+use Rattle.std.specs.Prelude.{⊤, Result, Ok, Err}
 use Rattle.nfg_decode.specs.declared.encoding.DecodeError.{DecodeError}
 use Rattle.nfg_decode.specs.declared.encoding.DecodeError.TheVariants.{Malformed, OutOfMemory}
 use Rattle.nfg_decode.specs.Decoded.{Decoded}

@@ -1,5 +1,5 @@
 -- The byte order mark at the start of a stream (this project's own).
-use Rattle.std.specs.Prelude.{◌≡◌, ℕ, ◌+◌, ◌≤◌, false, List, [], ◌∷◌, ◌++◌, length, take, drop, nat_eq, ⊤, Option, IfSome, IfNone}
+use Rattle.std.specs.Prelude.{◌≡◌, ℕ, ◌+◌, ◌≤◌, false, List, [], ◌∷◌, ◌++◌, length, take, drop, nat_eq, ⊤, IfSome, IfNone}
 use Rattle.std.specs.List.{starts_with}
 use Rattle.nfg_decode.specs.declared.encoding.Encoding.{Encoding}
 use Rattle.nfg_decode.specs.declared.encoding.Encoding.TheVariants.{Utf16}

@@ -10,6 +10,8 @@ mod reading;
 mod state;
 mod stream;
 mod tail;
+#[cfg(test)]
+mod tests;
 mod utf16;
 mod utf8;
 

@@ -1,7 +1,6 @@
-use Rattle.std.proofs.Common.{arith, ◌++◌, ap, sym, ◌∙◌, take, min, length, take-append-drop, append_assoc, refl}
+use Rattle.std.proofs.Common.{arith, sym, ◌∙◌, refl}
 use Rattle.std.proofs.lemmas.List.{append-nil}
 use Rattle.std.proofs.lemmas.Grind.{common_steps}
-use Rattle.nfg_decode.specs.Reads.{Grew}
 use Rattle.nfg_decode.proofs.ReadsLemmas.{on_err, Grew-refl, Grew-more}
 use Rattle.nfg_decode.proofs.part.append_bytes.Goals as goal
 

@@ -1,4 +1,4 @@
-use Rattle.std.proofs.Common.{◌∙◌, arith, subst, sym, ap}
+use Rattle.std.proofs.Common.{arith}
 use Rattle.std.proofs.lemmas.List.{take_rest}
 use Rattle.nfg_decode.specs.Reading.{as_encoding}
 use Rattle.nfg_decode.specs.Tail.{bytes_of}

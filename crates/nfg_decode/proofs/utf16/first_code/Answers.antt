@@ -1,4 +1,4 @@
-use Rattle.std.proofs.Common.{◌∙◌, sym, ap, arith, refl, ◌∷◌, []}
+use Rattle.std.proofs.Common.{◌∙◌, sym, ap, arith, ◌∷◌, []}
 use Rattle.nfg_decode.specs.Decoded.{after_text}
 use Rattle.nfg_decode.specs.Utf16.{decode_utf16}
 use Rattle.nfg_decode.proofs.Utf16Laws.{pair_at, none_in_short, lone_found, cut_found, apart_found}

@@ -1,4 +1,4 @@
-use Rattle.std.proofs.Common.{arith, drop}
+use Rattle.std.proofs.Common.{arith}
 use Rattle.std.proofs.lemmas.List.{take_rest}
 use Rattle.nfg_decode.proofs.Utf16Tails.{units_read}
 use Rattle.nfg_decode.proofs.utf16.read_utf16.Goals as goal

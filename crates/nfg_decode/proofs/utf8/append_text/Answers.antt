@@ -1,4 +1,4 @@
-use Rattle.std.proofs.Common.{◌∙◌, ◌++◌, ap, sym, subst, take, drop, arith, refl, IsUtf8, eqb-true}
+use Rattle.std.proofs.Common.{◌∙◌, ◌++◌, ap, sym, subst, refl, IsUtf8, eqb-true}
 use Rattle.std.proofs.lemmas.List.{append-nil}
 use Rattle.std.proofs.lemmas.Str.{IsUtf8-drop}
 use Rattle.std.specs.Str.{chars}

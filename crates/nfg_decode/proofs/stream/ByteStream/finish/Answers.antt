@@ -1,4 +1,4 @@
-use Rattle.std.proofs.Common.{ap, sym, ◌∙◌, arith}
+use Rattle.std.proofs.Common.{ap, sym, arith}
 use Rattle.nfg_decode.specs.Tail.{bytes_of}
 use Rattle.nfg_decode.specs.Answer.{answer_of}
 use Rattle.nfg_decode.proofs.StateLemmas.{open_end, open_cut}
