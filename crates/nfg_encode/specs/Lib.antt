@@ -1,0 +1,2 @@
+pub use Rattle.nfg_decode.specs.Encoding
+pub mod Refusal
