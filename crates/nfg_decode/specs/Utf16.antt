@@ -1,8 +1,4 @@
-<<<<<<< HEAD
 -- UTF-16, UTF-16LE and UTF-16BE (The Unicode Standard, 3.9 and 3.10).
-=======
--- UTF-16, UTF-16LE and UTF-16BE (The Unicode Standard, D91 and D96 to D98).
->>>>>>> bffee7f317a931680c22bc72b6a7f3c00edbd95c
 use Rattle.std.specs.Prelude.{ℕ, ◌+◌, ◌*◌, ◌/◌, ◌%◌, Bool, true, false, not, ◌&&◌, ◌||◌, List, [], ◌∷◌, drop, nat_eq, if◌then◌else◌, Ok, Err}
 use Rattle.std.specs.List.{starts_with}
 use Rattle.std.specs.Int.{is_in_range}

@@ -1,8 +1,4 @@
-<<<<<<< HEAD
 -- UTF-8 (The Unicode Standard, 3.9 and Table 3-7), in the words of std.
-=======
--- UTF-8 (The Unicode Standard, D92 and Table 3-7), in the words of std.
->>>>>>> bffee7f317a931680c22bc72b6a7f3c00edbd95c
 use Rattle.std.specs.Prelude.{ℕ, List, length, ◌==◌, if◌then◌else◌, Ok, Err, chars}
 use Rattle.std.specs.Str.Lossy.{utf8_valid_len}
 use Rattle.nfg_decode.specs.Decoded.{Decoded}

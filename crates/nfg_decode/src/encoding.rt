@@ -5,7 +5,6 @@ use thiserror::Error;
 /// How the bytes of a text spell its code points.
 #[derive(Clone, Copy, Debug, PartialEq, Eq)]
 pub enum Encoding {
-<<<<<<< HEAD
     /// UTF-8 (The Unicode Standard, 3.9). A byte order mark is a code point like any other.
     Utf8,
     /// UTF-16 (3.10): the first two bytes may be a mark, which gives the order of the bytes and is no
@@ -14,16 +13,6 @@ pub enum Encoding {
     /// UTF-16LE (3.10): the low byte of a unit comes first, and there is no mark.
     Utf16Le,
     /// UTF-16BE (3.10): the high byte of a unit comes first, and there is no mark.
-=======
-    /// UTF-8 (The Unicode Standard, D92). A byte order mark is a code point like any other.
-    Utf8,
-    /// UTF-16 (D98): the first two bytes may be a mark, which gives the order of the bytes and is no
-    /// part of the text. Without one the high byte of a unit comes first.
-    Utf16,
-    /// UTF-16LE (D97): the low byte of a unit comes first, and there is no mark.
-    Utf16Le,
-    /// UTF-16BE (D96): the high byte of a unit comes first, and there is no mark.
->>>>>>> bffee7f317a931680c22bc72b6a7f3c00edbd95c
     Utf16Be,
     /// ISO/IEC 8859-1: each byte is the code point of the same number.
     Latin1,

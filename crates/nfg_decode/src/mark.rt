@@ -1,8 +1,4 @@
-<<<<<<< HEAD
 //! The byte order mark of UTF-16 (The Unicode Standard, 3.10).
-=======
-//! The byte order mark of UTF-16 (The Unicode Standard, D98).
->>>>>>> bffee7f317a931680c22bc72b6a7f3c00edbd95c
 
 ghost use Rattle.std.specs.Prelude.{ℕ, ◌+◌, ◌≤◌, List, ◌∷◌, length};
 ghost use Rattle.nfg_decode.specs.Mark.{TellsMark, Opens, MayBeMark};
