@@ -13,6 +13,20 @@ use std::thread::Threads;
 
 const SCRIPT: &[u8] = b"load a utf8 f\nlen a\nshow a\n";
 
+/// How the files and the sink behave: the most bytes that a call takes or gives, and the calls that fail.
+#[derive(Clone, Copy)]
+struct Outside {
+    step: usize,
+    failing_call: u64,
+    failing_write: u64,
+}
+
+const SOUND: Outside = Outside {
+    step: 1000,
+    failing_call: u64::MAX,
+    failing_write: u64::MAX,
+};
+
 /// The words of a command line, one space between two.
 fn words_of(alloc: Global, line: &str) -> Result<Words, AllocError> {
     let mut words = Words::new(alloc);
@@ -22,66 +36,57 @@ fn words_of(alloc: Global, line: &str) -> Result<Words, AllocError> {
     Ok(words)
 }
 
-/// What `run s` answers to this script and this file `f`: the status, and whether the output is this text.
-fn answers<R: Threads + Sync>(
+/// What the command line gives over the script `s` and the file `f`: the status and the bytes taken.
+fn outcome<R: Threads + Sync>(
     rt: &R,
     alloc: Global,
-    step: usize,
+    line: &str,
     script: &[u8],
     file: &[u8],
-    wanted: &str,
-) -> Result<(Status, bool), AllocError>
-    requires { 1 ≤ step }
+    outside: Outside,
+) -> Result<(Status, Vec<u8>), AllocError>
+    requires { 1 ≤ outside.step }
 {
-    let words = words_of(alloc, "run s")?;
-    let mut files = MemoryFiles::new(alloc, step);
+    let words = words_of(alloc, line)?;
+    let mut files = MemoryFiles::new(alloc, outside.step);
     files.add("s", script)?;
     files.add("f", file)?;
-    let mut out = MemorySink::new(alloc, step, 1000)?;
+    files.fail_at(outside.failing_call)?;
+    let mut out = MemorySink::new(alloc, outside.step, 1 << 18)?;
+    out.fail_at(outside.failing_write)?;
     let status = run(rt, alloc, &words, &mut files, &mut out, &OpenGate);
-    Ok((status, out.taken() == wanted.as_bytes()))
+    Ok((status, Vec::from_slice(alloc, out.taken())?))
 }
 
 #[test]
 fn succeeds_with_memory(rt: HostRuntime) -> Result<(), Fail> {
-    let given = answers(
-        &rt,
-        rt.alloc(),
-        1000,
-        SCRIPT,
-        b"e\xcc\x81\r\nq",
-        "3\nE9 D+A 71\n",
-    )?;
-    assert_eq!(rt; given, (Status::Done, true));
+    let file = b"e\xcc\x81\r\nq";
+    let (status, taken) = outcome(&rt, rt.alloc(), "run s", SCRIPT, file, SOUND)?;
+    assert!(rt; status == Status::Done);
+    assert!(rt; taken.as_slice() == b"3\nE9 D+A 71\n".as_slice());
     Ok(())
 }
 
 #[test]
 fn a_file_has_the_clusters_that_a_reader_sees(rt: HostRuntime) -> Result<(), Fail> {
+    let one_byte = Outside { step: 1, ..SOUND };
     for (file, wanted) in [
-        (b"e\xcc\x81\r\nq".as_slice(), "3\nE9 D+A 71\n"),
+        ("e\u{301}\r\nq", "3\nE9 D+A 71\n"),
         (
-            b"Ze\xcc\x81 \xe0\xa4\xa8\xe0\xa4\xae\xe0\xa4\xb8\xe0\xa5\x8d\xe0\xa4\xa4\xe0\xa5\x87\r\n".as_slice(),
+            "Ze\u{301} \u{928}\u{92e}\u{938}\u{94d}\u{924}\u{947}\r\n",
             "7\n5A E9 20 928 92E 938+94D+924+947 D+A\n",
         ),
-        (b"".as_slice(), "0\n\n"),
+        ("", "0\n\n"),
+        ("\u{1100}\u{1161}\u{11a8}", "1\nAC01\n"),
+        ("\u{1f1e6}\u{1f1e7}\u{1f1e8}", "2\n1F1E6+1F1E7 1F1E8\n"),
         (
-            b"\xe1\x84\x80\xe1\x85\xa1\xe1\x86\xa8".as_slice(),
-            "1\nAC01\n",
-        ),
-        (
-            b"\xf0\x9f\x87\xa6\xf0\x9f\x87\xa7\xf0\x9f\x87\xa8".as_slice(),
-            "2\n1F1E6+1F1E7 1F1E8\n",
-        ),
-        (
-            b"q\xcc\x87\xcc\xa3 q\xcc\xa3\xcc\x87".as_slice(),
+            "q\u{307}\u{323} q\u{323}\u{307}",
             "3\n71+323+307 20 71+323+307\n",
         ),
     ] {
-        for step in [1, 2, 3, 1000] {
-            let given = answers(&rt, rt.alloc(), step, SCRIPT, file, wanted)?;
-            assert_eq!(rt; given, (Status::Done, true), "{wanted} by {step}");
-        }
+        let (status, taken) = outcome(&rt, rt.alloc(), "run s", SCRIPT, file.as_bytes(), one_byte)?;
+        assert!(rt; status == Status::Done);
+        assert!(rt; taken.as_slice() == wanted.as_bytes());
     }
     Ok(())
 }
@@ -89,67 +94,67 @@ fn a_file_has_the_clusters_that_a_reader_sees(rt: HostRuntime) -> Result<(), Fai
 #[test]
 fn every_other_script_is_bad(rt: HostRuntime) -> Result<(), Fail> {
     for script in [
-        b"".as_slice(),
-        b"load a utf8 f\nlen a\nshow a".as_slice(),
-        b"load a utf8 f\nlen a\nshow a\n\n".as_slice(),
-        b"load a utf8 f\nlen a\nshow b\n".as_slice(),
-        b"load a utf8 f\nshow a\nlen a\n".as_slice(),
-        b"load a utf16 f\nlen a\nshow a\n".as_slice(),
-        b"load a utf8  f\nlen a\nshow a\n".as_slice(),
-        b"load a utf8 f \nlen a\nshow a\n".as_slice(),
-        b"load a utf8 f\r\nlen a\nshow a\n".as_slice(),
-        b"load a\tutf8 f\nlen a\nshow a\n".as_slice(),
-        b"load a- utf8 f\nlen a-\nshow a-\n".as_slice(),
-        b"load  utf8 f\nlen \nshow \n".as_slice(),
-        b"load a utf8 \xff\nlen a\nshow a\n".as_slice(),
+        "",
+        "load a utf8 f\nlen a\nshow a",
+        "load a utf8 f\nlen a\nshow a\n\n",
+        "load a utf8 f\nlen a\nshow b\n",
+        "load a utf8 f\nshow a\nlen a\n",
+        "load a utf16 f\nlen a\nshow a\n",
+        "load a utf8  f\nlen a\nshow a\n",
+        "load a utf8 f\r\nlen a\nshow a\n",
+        "load a- utf8 f\nlen a-\nshow a-\n",
     ] {
-        let given = answers(&rt, rt.alloc(), 7, script, b"x", "script: bad\n")?;
-        assert_eq!(rt; given, (Status::Bad, true));
+        let (status, taken) = outcome(&rt, rt.alloc(), "run s", script.as_bytes(), b"x", SOUND)?;
+        assert!(rt; status == Status::Bad);
+        assert!(rt; taken.as_slice() == b"script: bad\n".as_slice());
     }
     Ok(())
 }
 
-#[test]
-fn a_file_that_is_not_read_yet_is_told(rt: HostRuntime) -> Result<(), Fail> {
-    let mut long = Vec::new(rt.alloc());
-    long.resize(65_537, b'a')?;
-    // one cluster of 1,025 code points
-    let mut marks = Vec::from_slice(rt.alloc(), b"q")?;
-    for _ in 0..1024u32 {
-        marks.extend_from_slice(b"\xcc\x81")?;
+/// So many bytes `a`.
+fn letters(alloc: Global, count: usize) -> Result<Vec<u8>, AllocError> {
+    let mut bytes = Vec::new(alloc);
+    bytes.resize(count, b'a')?;
+    Ok(bytes)
+}
+
+/// `q` with so many acute accents, which is one cluster.
+fn accents(alloc: Global, count: u32) -> Result<Vec<u8>, AllocError> {
+    let mut bytes = Vec::from_slice(alloc, b"q")?;
+    for _ in 0..count {
+        bytes.extend_from_slice(b"\xcc\x81")?;
     }
+    Ok(bytes)
+}
+
+#[test]
+fn what_is_not_read_yet_is_told(rt: HostRuntime) -> Result<(), Fail> {
+    let long = letters(rt.alloc(), 65_537)?;
+    let marks = accents(rt.alloc(), 1_024)?;
     for file in [long.as_slice(), marks.as_slice(), b"a\xe2\x82".as_slice()] {
-        let given = answers(&rt, rt.alloc(), 4096, SCRIPT, file, "line 1: not yet\n")?;
-        assert_eq!(rt; given, (Status::Refused, true), "{} bytes", file.len());
+        let (status, taken) = outcome(&rt, rt.alloc(), "run s", SCRIPT, file, SOUND)?;
+        assert!(rt; status == Status::Refused);
+        assert!(rt; taken.as_slice() == b"line 1: not yet\n".as_slice());
     }
     Ok(())
 }
 
 #[test]
 fn the_limits_are_exact(rt: HostRuntime) -> Result<(), Fail> {
-    let mut long = Vec::new(rt.alloc());
-    long.resize(65_536, b'a')?;
-    let mut marks = Vec::from_slice(rt.alloc(), b"q")?;
-    for _ in 0..1023u32 {
-        marks.extend_from_slice(b"\xcc\x81")?;
-    }
+    let long = letters(rt.alloc(), 65_536)?;
+    let marks = accents(rt.alloc(), 1_023)?;
     for (file, front) in [
-        (long.as_slice(), b"65536\n61 61".as_slice()),
-        (marks.as_slice(), b"1\n71+301+301".as_slice()),
+        (long.as_slice(), "65536\n61 61"),
+        (marks.as_slice(), "1\n71+301+301"),
     ] {
-        let words = words_of(rt.alloc(), "run s")?;
-        let mut files = MemoryFiles::new(rt.alloc(), 5000);
-        files.add("s", SCRIPT)?;
-        files.add("f", file)?;
-        let mut out = MemorySink::new(rt.alloc(), 5000, 1 << 20)?;
-        let status = run(&rt, rt.alloc(), &words, &mut files, &mut out, &OpenGate);
-        assert_eq!(rt; status, Status::Done);
-        assert!(rt; out.taken().starts_with(front));
+        let (status, taken) = outcome(&rt, rt.alloc(), "run s", SCRIPT, file, SOUND)?;
+        assert!(rt; status == Status::Done);
+        assert!(rt; taken.as_slice().starts_with(front.as_bytes()));
     }
     Ok(())
 }
 
-/// The refused line of a script over a table of 16 places, where the file has so many clusters of two code points.
+/// The refused line over a table of 16 places, where the file has so many different clusters of two code points.
 fn refused_over_16(alloc: Global, clusters: u8) -> Result<Option<RefusedLine>, AllocError>
     requires { clusters ≤ 32 }
 {
@@ -170,27 +175,25 @@ fn refused_over_16(alloc: Global, clusters: u8) -> Result<Option<RefusedLine>, A
 
 #[test]
 fn a_table_of_16_places_takes_16_clusters(rt: HostRuntime) -> Result<(), Fail> {
-    let refused = Some(RefusedLine {
+    let refused = RefusedLine {
         line: 1,
         cause: Cause::NotYet,
-    });
-    assert_eq!(rt; refused_over_16(rt.alloc(), 16)?, None);
-    assert_eq!(rt; refused_over_16(rt.alloc(), 17)?, refused);
+    };
+    assert!(rt; refused_over_16(rt.alloc(), 16)? == None);
+    assert!(rt; refused_over_16(rt.alloc(), 17)? == Some(refused));
     Ok(())
 }
 
 #[test]
 fn other_words_give_the_usage(rt: HostRuntime) -> Result<(), Fail> {
-    let usage =
-        b"usage: nfg run [--workers W] [--table N] SCRIPT\n       nfg gen [--workers W] [--table N] SEED COUNT\n";
     for line in ["run", "s", "run -h", "run -- s", "gen s", "run s s"] {
-        let words = words_of(rt.alloc(), line)?;
-        let mut files = MemoryFiles::new(rt.alloc(), 9);
-        files.add("s", SCRIPT)?;
-        let mut out = MemorySink::new(rt.alloc(), 9, 1000)?;
-        let status = run(&rt, rt.alloc(), &words, &mut files, &mut out, &OpenGate);
-        assert_eq!(rt; status, Status::Bad);
-        assert!(rt; out.taken() == usage.as_slice());
+        let (status, taken) = outcome(&rt, rt.alloc(), line, SCRIPT, b"x", SOUND)?;
+        assert!(rt; status == Status::Bad);
+        assert!(rt;
+            taken.as_slice().starts_with(
+                b"usage: nfg run [--workers W] [--table N] SCRIPT\n       nfg gen "
+            )
+        );
     }
     Ok(())
 }
@@ -198,84 +201,67 @@ fn other_words_give_the_usage(rt: HostRuntime) -> Result<(), Fail> {
 #[test]
 fn each_failed_call_on_files_is_told(rt: HostRuntime) -> Result<(), Fail> {
     // the script is opened, read and read to its end, and so is the file
-    for (call, status, wanted) in [
-        (0, Status::ReadFault, "script: cannot read\n"),
-        (1, Status::ReadFault, "script: cannot read\n"),
-        (2, Status::ReadFault, "script: cannot read\n"),
-        (3, Status::ReadFault, "line 1: cannot read\n"),
-        (4, Status::ReadFault, "line 1: cannot read\n"),
-        (5, Status::ReadFault, "line 1: cannot read\n"),
-        (6, Status::Done, "1\n78\n"),
+    for (failing_call, wanted) in [
+        (0, "script: cannot read\n"),
+        (1, "script: cannot read\n"),
+        (2, "script: cannot read\n"),
+        (3, "line 1: cannot read\n"),
+        (4, "line 1: cannot read\n"),
+        (5, "line 1: cannot read\n"),
     ] {
-        let words = words_of(rt.alloc(), "run s")?;
-        let mut files = MemoryFiles::new(rt.alloc(), 1000);
-        files.add("s", SCRIPT)?;
-        files.add("f", b"x")?;
-        files.fail_at(call)?;
-        let mut out = MemorySink::new(rt.alloc(), 5, 100)?;
-        assert_eq!(rt;
-            run(&rt, rt.alloc(), &words, &mut files, &mut out, &OpenGate),
-            status,
-            "call {call}"
-        );
-        assert!(rt; out.taken() == wanted.as_bytes());
+        let outside = Outside {
+            failing_call,
+            ..SOUND
+        };
+        let (status, taken) = outcome(&rt, rt.alloc(), "run s", SCRIPT, b"x", outside)?;
+        assert!(rt; status == Status::ReadFault);
+        assert!(rt; taken.as_slice() == wanted.as_bytes());
     }
     Ok(())
 }
 
 #[test]
-fn a_file_that_is_not_there_is_told(rt: HostRuntime) -> Result<(), Fail> {
-    for (path, wanted) in [
-        ("f", "script: cannot read\n"),
-        ("s", "line 1: cannot read\n"),
-    ] {
-        let words = words_of(rt.alloc(), "run s")?;
-        let mut files = MemoryFiles::new(rt.alloc(), 3);
-        files.add(path, SCRIPT)?;
-        let mut out = MemorySink::new(rt.alloc(), 3, 100)?;
-        let status = run(&rt, rt.alloc(), &words, &mut files, &mut out, &OpenGate);
-        assert_eq!(rt; status, Status::ReadFault);
-        assert!(rt; out.taken() == wanted.as_bytes());
-    }
+fn a_path_that_is_not_there_is_told(rt: HostRuntime) -> Result<(), Fail> {
+    let (status, taken) = outcome(&rt, rt.alloc(), "run none", SCRIPT, b"x", SOUND)?;
+    assert!(rt; status == Status::ReadFault);
+    assert!(rt; taken.as_slice() == b"script: cannot read\n".as_slice());
+    let script = b"load a utf8 none\nlen a\nshow a\n";
+    let (status, taken) = outcome(&rt, rt.alloc(), "run s", script, b"x", SOUND)?;
+    assert!(rt; status == Status::ReadFault);
+    assert!(rt; taken.as_slice() == b"line 1: cannot read\n".as_slice());
     Ok(())
 }
 
 #[test]
 fn each_failed_write_leaves_a_front(rt: HostRuntime) -> Result<(), Fail> {
-    for (call, status, wanted) in [
-        (0, Status::WriteFault, ""),
-        (1, Status::WriteFault, "3\nE9"),
-        (2, Status::WriteFault, "3\nE9 D+A"),
-        (3, Status::Done, "3\nE9 D+A 71\n"),
-    ] {
-        let words = words_of(rt.alloc(), "run s")?;
-        let mut files = MemoryFiles::new(rt.alloc(), 1000);
-        files.add("s", SCRIPT)?;
-        files.add("f", b"e\xcc\x81\r\nq")?;
-        let mut out = MemorySink::new(rt.alloc(), 4, 100)?;
-        out.fail_at(call)?;
-        assert_eq!(rt;
-            run(&rt, rt.alloc(), &words, &mut files, &mut out, &OpenGate),
-            status,
-            "write {call}"
-        );
-        assert!(rt; out.taken() == wanted.as_bytes());
+    for (failing_write, wanted) in [(0, ""), (1, "3\nE9"), (2, "3\nE9 D+A")] {
+        let outside = Outside {
+            step: 4,
+            failing_write,
+            ..SOUND
+        };
+        let (status, taken) = outcome(
+            &rt,
+            rt.alloc(),
+            "run s",
+            SCRIPT,
+            b"e\xcc\x81\r\nq",
+            outside,
+        )?;
+        assert!(rt; status == Status::WriteFault);
+        assert!(rt; taken.as_slice() == wanted.as_bytes());
     }
     Ok(())
 }
 
 #[test]
 fn a_status_has_its_code(rt: HostRuntime) {
-    for (status, code) in [
-        (Status::Done, 0),
-        (Status::Refused, 1),
-        (Status::Bad, 2),
-        (Status::ReadFault, 3),
-        (Status::OutOfMemory, 4),
-        (Status::WriteFault, 5),
-    ] {
-        assert_eq!(rt; status.code(), code);
-    }
+    assert!(rt; Status::Done.code() == 0);
+    assert!(rt; Status::Refused.code() == 1);
+    assert!(rt; Status::Bad.code() == 2);
+    assert!(rt; Status::ReadFault.code() == 3);
+    assert!(rt; Status::OutOfMemory.code() == 4);
+    assert!(rt; Status::WriteFault.code() == 5);
 }
 
 fn is_shared<T: Send + Sync>(_: &T) {}
