@@ -1,0 +1,6 @@
+//! Operations on strings.
+#![tactic(auto)]
+
+mod part;
+
+pub use part::{SubError, substring};
