@@ -4,3 +4,6 @@
 mod part;
 
 pub use part::{SubError, substring};
+
+#[cfg(test)]
+mod tests;
