@@ -1,0 +1,1 @@
+pub use Rattle.nfg_strand.specs.Pieces
