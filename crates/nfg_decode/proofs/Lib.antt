@@ -1,4 +1,5 @@
 pub mod Examples
+pub mod LawLemmas
 pub mod MarkLemmas
 pub mod PrefixLemmas
 pub mod ReadingLemmas

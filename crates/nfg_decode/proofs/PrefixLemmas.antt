@@ -30,7 +30,7 @@ length-mark Little = refl
 length-mark Big = refl
 
 -- bytes that begin with no mark are big-endian
-unmarked : (b : List ℕ) → IsUnmarked b → decode Utf16 b ≡ decode_utf16 Big b
+pub unmarked : (b : List ℕ) → IsUnmarked b → decode Utf16 b ≡ decode_utf16 Big b
 unfolding decode decode_marked
 unmarked b u = rw (u.big, u.little) refl
 

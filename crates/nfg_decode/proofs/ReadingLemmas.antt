@@ -127,6 +127,12 @@ module _ (e : Encoding) (stepwise : IsStepwise (decode e)) (held piece : List �
               r.held open_still ∙ ap (drop reading.settled) (whole_seam seam is u.short);
         }
 
+  -- all of the bytes are in the seam
+  pub all_in_seam : (seam old mid : List ℕ) (reading : Reading) → seam ≡ take 4 (held ++ piece) → length held + length piece ≤ 4 → ReadsOn e seam old mid reading
+      → ReadsOn e (held ++ piece) old mid reading
+  all_in_seam seam old mid reading is few r =
+      subst (λ l. ReadsOn e l old mid reading) (is ∙ take_all 4 (held ++ piece) (omega (arith, length-append held piece))) r
+
   -- or one is, and then the piece is read on
   pub some_over_seam : (seam old mid new : List ℕ) (over rest : Reading) (used : ℕ) → seam ≡ take 4 (held ++ piece) → 0 < over.settled → used ≡ over.settled - length held
       → ReadsOn e seam old mid over → ReadsOn e (drop used piece) mid new rest

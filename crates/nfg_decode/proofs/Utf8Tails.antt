@@ -18,7 +18,7 @@ use Rattle.nfg_decode.proofs.ReadsLemmas.{IsUnfinished-nil, one_byte, two_bytes,
 use Rattle.nfg_decode.proofs.Utf8Laws.{valid_front, none_longer, decode_utf8_text}
 
 -- the place is the length of the longest front that is UTF-8
-valid_len_at : (bs : List ℕ) (p : ℕ) → decode_utf8 bs ≡ Err p → utf8_valid_len bs ≡ p
+pub valid_len_at : (bs : List ℕ) (p : ℕ) → decode_utf8 bs ≡ Err p → utf8_valid_len bs ≡ p
 unfolding decode_utf8
 valid_len_at bs p = cond_both (utf8_valid_len bs == length bs) (Ok (chars bs)) (Err (utf8_valid_len bs)) (λ r. r ≡ Err p → utf8_valid_len bs ≡ p) (λ _ e. cc) (λ _ e. cc)
 

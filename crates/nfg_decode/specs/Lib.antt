@@ -1,3 +1,4 @@
+pub use Rattle.nfg_text.specs.Text
 pub mod Answer
 pub mod Decoded
 pub mod Encoding

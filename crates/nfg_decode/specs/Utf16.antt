@@ -1,4 +1,4 @@
--- UTF-16, UTF-16LE and UTF-16BE (The Unicode Standard, 3.9 and 3.10).
+-- UTF-16, UTF-16LE and UTF-16BE (The Unicode Standard, sections 3.9 and 3.10).
 use Rattle.std.specs.Prelude.{ℕ, ◌+◌, ◌*◌, ◌/◌, ◌%◌, Bool, true, false, not, ◌&&◌, ◌||◌, List, [], ◌∷◌, drop, nat_eq, if◌then◌else◌, Ok, Err}
 use Rattle.std.specs.List.{starts_with}
 use Rattle.std.specs.Int.{is_in_range}

@@ -1,4 +1,4 @@
--- UTF-8 (The Unicode Standard, 3.9 and Table 3-7), in the words of std.
+-- UTF-8 (The Unicode Standard, section 3.9, Table 3-7), in the words of std.
 use Rattle.std.specs.Prelude.{ℕ, List, length, ◌==◌, if◌then◌else◌, Ok, Err, chars}
 use Rattle.std.specs.Str.Lossy.{utf8_valid_len}
 use Rattle.nfg_decode.specs.Decoded.{Decoded}

@@ -3,6 +3,7 @@
 
 mod encoding;
 mod latin1;
+pub mod laws;
 mod mark;
 mod part;
 mod reach;

@@ -1,4 +1,4 @@
-//! The byte order mark of UTF-16 (The Unicode Standard, 3.10).
+//! The byte order mark of UTF-16 (The Unicode Standard, section 3.10).
 
 ghost use Rattle.std.specs.Prelude.{ℕ, ◌+◌, ◌≤◌, List, ◌∷◌, length};
 ghost use Rattle.nfg_decode.specs.Mark.{TellsMark, Opens, MayBeMark};

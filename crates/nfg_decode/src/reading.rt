@@ -55,16 +55,35 @@ fn read(
     }
 }
 
-/// The same, by a buffer of its own.
+/// The same, by a short buffer of its own.
+fn read_short(form: Form, bytes: &[u8], into: &mut CodeList) -> Result<Reach, AllocError>
+    ensures ok { IfOk result (λ reach.
+        Reads (as_encoding form) bytes.now into.old into.new reach.at reach.is_malformed) }
+    ensures err { OnErr result (Grew into.old into.new) }
+{
+    read(form, bytes, &mut [0; SHORT], into)
+}
+
+/// The same, by a long buffer: a function of its own, since it pays for the buffer when it begins.
+#[inline(never)]
+fn read_long(form: Form, bytes: &[u8], into: &mut CodeList) -> Result<Reach, AllocError>
+    ensures ok { IfOk result (λ reach.
+        Reads (as_encoding form) bytes.now into.old into.new reach.at reach.is_malformed) }
+    ensures err { OnErr result (Grew into.old into.new) }
+{
+    read(form, bytes, &mut [0; PART], into)
+}
+
+/// The same, by the buffer that serves.
 fn read_whole(form: Form, bytes: &[u8], into: &mut CodeList) -> Result<Reach, AllocError>
     ensures ok { IfOk result (λ reach.
         Reads (as_encoding form) bytes.now into.old into.new reach.at reach.is_malformed) }
     ensures err { OnErr result (Grew into.old into.new) }
 {
     if bytes.len() <= SHORT {
-        read(form, bytes, &mut [0; SHORT], into)
+        read_short(form, bytes, into)
     } else {
-        read(form, bytes, &mut [0; PART], into)
+        read_long(form, bytes, into)
     }
 }
 
@@ -111,6 +130,9 @@ pub(crate) fn read_on(
     let mut seam = [0; 4];
     let len = fill_seam(tail, piece, &mut seam);
     let over = read_piece(form, &seam[..len], into)?;
+    if held + piece.len() == len {
+        return Ok(over);
+    }
     if over.settled == 0 {
         return Ok(over);
     }
