@@ -1,17 +1,17 @@
 -- What interning a text does to the texts of the table.
-use Rattle.std.proofs.Common.{◌≡◌, ◌≢◌, ℕ, zero, suc, ◌≤◌, Bool, true, false, not, ◌&&◌, ◌||◌, ◌==◌, nat_lt, ◌-◌, List, [], ◌∷◌, ◌++◌, length, slice_get, bytes_eq, Option, Some, None, ℤ, negsuc, refl, sym, ap, ◌∙◌, arith}
+use Rattle.std.proofs.Common.{◌≡◌, ◌≢◌, ℕ, zero, suc, ◌≤◌, Bool, true, false, ◌&&◌, ◌==◌, nat_lt, ◌-◌, List, [], ◌∷◌, ◌++◌, length, slice_get, bytes_eq, Some, ℤ, negsuc, refl, sym, ap, ◌∙◌, arith}
 use Rattle.std.proofs.lemmas.Bool.{lt-ltb, eq-eqb, false_from_ne_true}
 use Rattle.std.proofs.lemmas.Slice.Eq.{bytes_eq-Decides}
 use Rattle.std.specs.Set.{is_member}
 use mathlib.Core.Logic.{dite}
 use native.Mathlib.Decide.{ℕ_discrete}
-use Rattle.nfg_syn.specs.Known.{Texts, IsUnknown, MapsBesides, crlf}
+use Rattle.nfg_syn.specs.Known.{IsUnknown, MapsBesides, crlf}
 use Rattle.nfg_syn.specs.KnownLaws.{same_text}
 use Rattle.nfg_syn.specs.OwnTexts.{known_of}
 use Rattle.nfg_text.specs.Graphemes.{is_too_long}
 use Rattle.nfg_run.specs.Evaluation.{takes_place}
 use Rattle.nfg_run.specs.Interning.{is_new, texts_with, gets_none}
-use Rattle.nfg_run.proofs.Distinct.{bytes_eq-same, or-right}
+use Rattle.nfg_run.proofs.Distinct.{or-right}
 
 -- lists with the same entries are one
 pub slice_get-same : (xs ys : List (List ℕ)) → ((k : ℕ) → slice_get xs k ≡ slice_get ys k) → xs ≡ ys

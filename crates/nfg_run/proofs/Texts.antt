@@ -1,5 +1,5 @@
 -- The texts of the table are the different clusters that take a place.
-use Rattle.std.proofs.Common.{◌≡◌, ℕ, ◌+◌, ◌<◌, ◌≤◌, Bool, true, false, not, ◌&&◌, ◌||◌, ◌==◌, nat_lt, List, [], ◌∷◌, ◌++◌, length, filter, fold, bytes_eq, Ok, Err, refl, sym, ap, subst, ◌∙◌, append_assoc, append-nil, length-append, arith}
+use Rattle.std.proofs.Common.{◌≡◌, ℕ, ◌+◌, ◌≤◌, Bool, true, false, not, ◌&&◌, ◌||◌, ◌==◌, nat_lt, List, [], ◌∷◌, ◌++◌, length, filter, fold, bytes_eq, Ok, Err, refl, sym, ap, subst, ◌∙◌, append_assoc, append-nil, length-append, arith}
 use Rattle.std.proofs.lemmas.Bool.{lt-ltb, le-ltb, eqb-true, and_parts}
 use Rattle.std.proofs.lemmas.List.Elements.{filter-append}
 use Rattle.std.proofs.lemmas.List.Folds.{list_any-append}
@@ -11,7 +11,7 @@ use Rattle.nfg_text.specs.Graphemes.{is_too_long}
 use Rattle.nfg_run.specs.declared.output.Cause.TheVariants.{NotYet}
 use Rattle.nfg_run.specs.Evaluation.{takes_place, kept}
 use Rattle.nfg_run.specs.Interning.{is_new, texts_with, texts_after, gets_none}
-use Rattle.nfg_run.proofs.Distinct.{bytes_eq-same, missing, or-false, or-right, is_member-push, distinct_count-push, distinct_count-append}
+use Rattle.nfg_run.proofs.Distinct.{missing, or-false, or-right, is_member-push, distinct_count-push, distinct_count-append}
 
 -- the texts are the different ones of those that were used
 pub record AreDistinct (texts used : List (List ℕ)) : Type 0 where

@@ -5,7 +5,6 @@ use Rattle.nfg_run.specs.declared.answer.Answer.{Answer}
 use Rattle.nfg_run.specs.declared.output.Cause.{Cause}
 use Rattle.nfg_run.specs.declared.output.Cause.TheVariants.{CannotRead, NotYet}
 use Rattle.nfg_run.specs.declared.output.FileRead.{FileRead}
-use Rattle.nfg_run.specs.declared.output.Output.{Output}
 use Rattle.nfg_run.specs.declared.output.RefusedLine.{RefusedLine}
 use Rattle.nfg_run.specs.declared.status.Status.{Status}
 use Rattle.nfg_run.specs.declared.status.Status.TheVariants.{Done, Refused, Bad, ReadFault}

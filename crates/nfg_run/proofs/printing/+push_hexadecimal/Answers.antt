@@ -1,4 +1,4 @@
-use Rattle.std.proofs.Common.{◌≡◌, ◌/◌, ◌++◌, ◌∷◌, [], true, ap, sym, ◌∙◌, append_assoc, arith}
+use Rattle.std.proofs.Common.{◌/◌, ◌++◌, ◌∷◌, [], true, ap, sym, ◌∙◌, append_assoc}
 use Rattle.std.specs.Fmt.{digits}
 use Rattle.nfg_run.proofs.Hexadecimal.{digits-one, digits-last}
 use Rattle.nfg_run.proofs.printing.+push_hexadecimal.Goals as goal

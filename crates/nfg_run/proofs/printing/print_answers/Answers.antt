@@ -1,4 +1,4 @@
-use Rattle.std.proofs.Common.{◌≡◌, ◌++◌, ◌∷◌, [], length, ap, sym, ◌∙◌}
+use Rattle.std.proofs.Common.{◌≡◌, ◌++◌, ◌∷◌, [], length, ap, ◌∙◌}
 use Rattle.std.specs.Fmt.{decimal}
 use Rattle.nfg_syn.specs.OwnTexts.{known_of}
 use Rattle.nfg_syn.specs.RepresentsLaws.{Represents-length}

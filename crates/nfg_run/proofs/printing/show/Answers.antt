@@ -1,4 +1,4 @@
-use Rattle.std.proofs.Common.{◌≡◌, ◌<◌, ◌≤◌, ◌++◌, map, length, Some, pos, slice_index_or, ap, sym, ◌∙◌, arith, w32, to_z, of_z, rules}
+use Rattle.std.proofs.Common.{◌≡◌, ◌≤◌, ◌++◌, map, length, Some, pos, slice_index_or, ap, ◌∙◌, arith, w32, to_z, of_z, rules}
 use Rattle.std.specs.List.{join_with_byte}
 use Rattle.nfg_syn.specs.OwnTexts.{known_of}
 use Rattle.nfg_syn.specs.Represents.{spelling}
