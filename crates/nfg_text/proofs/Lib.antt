@@ -14,14 +14,15 @@ pub mod Everywhere
 pub mod HangulFacts
 pub mod KeptFacts
 pub mod KeptFront
-pub mod KindFacts
 pub mod LookBack
 pub mod Memories
+pub mod Pairs
 pub mod Parts
 pub mod Places
 pub mod PlainFacts
 pub mod PlainRuns
-pub mod PlainTest
+pub mod PropertyFacts
+pub mod PropertyParts
 pub mod Proved
 pub mod Reading
 pub mod SafeStart

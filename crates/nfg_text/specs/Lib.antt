@@ -4,5 +4,6 @@ pub mod Graphemes
 pub mod Laws
 pub mod Operations
 pub mod Plain
+pub mod Properties
 pub mod Splice
 pub mod Text
