@@ -6,6 +6,8 @@ use Rattle.ucd_derived.specs.IndicConjunctBreak.{indic_conjunct_break}
 use Rattle.ucd_derived.specs.declared.IndicConjunctBreak.{IndicConjunctBreak}
 use Rattle.ucd_derived.specs.declared.IndicConjunctBreak.TheVariants.{None}
 use Rattle.ucd_emoji.specs.Binary.{is_extended_pictographic}
+use Rattle.unicode_normalization.proofs.Computing.{unicode_normalization}
+use Rattle.unicode_segmentation.proofs.Computing.{unicode_segmentation}
 use Rattle.unicode_segmentation.specs.Grapheme.{is_consonant}
 use Rattle.nfg_text.specs.Facts.{PlainStandsApart}
 use Rattle.nfg_text.specs.Graphemes.{starts_safely}
@@ -35,3 +37,7 @@ plain_stands_apart c plain =
       no_consonant = none_is_no_consonant (indic_conjunct_break c) rest.0;
       no_pictograph = not_true picture rest.1;
     }
+
+pub line_feed_is_not_plain : is_plain 0xA ≡ false
+unfolding is_plain is_ordinary unicode_normalization unicode_segmentation
+line_feed_is_not_plain = refl
