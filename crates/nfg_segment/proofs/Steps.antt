@@ -27,7 +27,7 @@ follows-new o tail keeps none = record { tracks = tracks-new o tail keeps none; 
 
 -- ---- a text that is not composed
 
-pub tracks-hold : (h : Held) (tail fed text : List ℕ) (given : List (List ℕ)) → Tracks h fed given → tail ≡ h.tail ++ text → Tracks (held h.cluster tail) (fed ++ text) given
+unfoldable pub tracks-hold : (h : Held) (tail fed text : List ℕ) (given : List (List ℕ)) → Tracks h fed given → tail ≡ h.tail ++ text → Tracks (held h.cluster tail) (fed ++ text) given
 tracks-hold h tail fed text given t e =
     record {
       cluster = t.cluster;

@@ -1,5 +1,5 @@
 //! What a segmenter holds of a text.
-ghost use Rattle.std.specs.Prelude.{◌≡◌, ◌<◌, ◌≤◌, ℕ, true, false, List, [], ◌∷◌, ◌++◌, ◌+◌, take, drop, length, IfSome, IfOk, OnOk, MatchOption};
+ghost use Rattle.std.specs.Prelude.{◌≡◌, ◌<◌, ◌≤◌, ℕ, true, false, List, [], ◌∷◌, ◌++◌, ◌+◌, take, drop, length, IsTrue, IfSome, IfOk, OnOk};
 ghost use Rattle.std.specs.List.{slice_index_or};
 ghost use Rattle.nfg_text.specs.Forms.{nfc};
 ghost use Rattle.nfg_text.specs.Graphemes.{graphemes_of, starts_safely};
@@ -12,11 +12,10 @@ ghost use Rattle.nfg_segment.specs.Held.{Keeps, next_all, closed_all, as_list, n
 use crate::ClusterSink;
 use crate::draft::{Draft, to_char};
 use crate::open_cluster::OpenCluster;
-use crate::plain::{mixed_len, plain_len};
-use nfg_text::{Kind, append_nfc, is_plain, starts_safely};
+use crate::plain::plain_len;
+use nfg_text::{Kind, append_nfc, compose_pair, is_plain, starts_safely};
 use std::alloc::{AllocError, Global};
 use std::marker::Model;
-
 
 /// The cluster at the end of what is composed, and the text behind it that is not composed yet.
 #[derive(Drop)]
@@ -116,47 +115,95 @@ impl Held {
         Some(c)
     }
 
-    /// Goes on with a code point that starts safely, which settles what is held.
-    fn begin<S: ClusterSink>(&mut self, c: char, out: &mut S) -> Result<(), AllocError>
-        requires { starts_safely c ≡ true }
-        ensures follows { (fed : List ℕ) (given : List (List ℕ)) → Tracks self.old.now fed given
-            → OnOk result ((more : List (List ℕ)) × (Follows self.new.now (fed ++ c ∷ []) (given ++ more))
-            × (S.given out.new ≡ with_clusters (S.given out.old) more)) }
+    /// Composes the tail, and goes on with it and with what begins the text, up to the last of the code points at its
+    /// front that start safely. Says where that one is.
+    fn settle_safe<S: ClusterSink>(
+        &mut self,
+        text: &[u32],
+        out: &mut S,
+    ) -> Result<usize, AllocError>
+        requires text { IsText text.now }
+        requires some { 0 < length text.now }
+        requires first { starts_safely (slice_index_or text.now 0 0) ≡ true }
+        ensures settled { (cluster : List ℕ) → Keeps self.old.now.cluster cluster
+            → IfOk result (λ n. (Keeps self.new.now.cluster (next_all cluster (nfc (self.old.now.tail ++ take n text.now))))
+            × (self.new.now.tail ≡ [])
+            × (S.given out.new ≡ with_clusters (S.given out.old) (closed_all cluster (nfc (self.old.now.tail ++ take n text.now))))) }
+        ensures safe { IfOk result (λ n. (n < length text.now) × (starts_safely (slice_index_or text.now n 0) ≡ true)) }
         ensures marked { self.new.marked ≡ self.old.marked }
         ensures grew { Grew (S.given out.old) (S.given out.new) }
     {
         self.settle(out)?;
-        if c == '\n' {
-            self.cluster.push(c, out)?;
-            self.cluster.close(out)?;
-            return Ok(());
-        }
-        self.cluster.close_before(c, Kind::of(c), out)?;
-        self.tail.push(c)?;
-        Ok(())
+        let n = self.cluster.push_safe(text, out)?;
+        Ok(n)
     }
 
-    /// Goes on with a text of any kind.
-    fn take_mixed<S: ClusterSink>(&mut self, text: &[u32], out: &mut S) -> Result<(), AllocError>
-        requires { IsText text.now }
-        ensures follows { (fed : List ℕ) (given : List (List ℕ)) → Follows self.old.now fed given
-            → OnOk result ((more : List (List ℕ)) × (Follows self.new.now (fed ++ text.now) (given ++ more))
+    /// Goes on with code points that start safely, which settle what is held. Says with how many.
+    fn take_safe<S: ClusterSink>(&mut self, text: &[u32], out: &mut S) -> Result<usize, AllocError>
+        requires text { IsText text.now }
+        requires some { 0 < length text.now }
+        requires first { starts_safely (slice_index_or text.now 0 0) ≡ true }
+        ensures follows { (fed : List ℕ) (given : List (List ℕ)) → Tracks self.old.now fed given
+            → IfOk result (λ n. (more : List (List ℕ)) × (Follows self.new.now (fed ++ take n text.now) (given ++ more))
             × (S.given out.new ≡ with_clusters (S.given out.old) more)) }
+        ensures some { IfOk result (λ n. (0 < n) × (n ≤ length text.now)) }
         ensures marked { self.new.marked ≡ self.old.marked }
         ensures grew { Grew (S.given out.old) (S.given out.new) }
     {
-        match last_safe(text) {
-            None => {
-                self.hold(text)?;
-                Ok(())
-            }
-            Some(at) => {
-                self.hold(&text[..at])?;
-                self.begin(to_char(text[at]), out)?;
-                self.hold(&text[at + 1..])?;
-                Ok(())
+        let at = self.settle_safe(text, out)?;
+        let c = to_char(text[at]);
+        if c == '\n' {
+            self.cluster.push(c, out)?;
+            self.cluster.close(out)?;
+            return Ok(at + 1);
+        }
+        self.cluster.close_before(c, Kind::of(c), out)?;
+        self.tail.push(c)?;
+        Ok(at + 1)
+    }
+
+    /// Goes on with a code point that composes with the one that is the tail. Says whether it does; if
+    /// not, nothing is done.
+    fn compose_last(&mut self, c: char) -> Result<bool, AllocError>
+        ensures follows { (fed : List ℕ) (given : List (List ℕ)) → starts_safely c ≡ false → Follows self.old.now fed given
+            → IfOk result (λ done. IsTrue done → Follows self.new.now (fed ++ c ∷ []) given) }
+        ensures same { IfOk result (λ done. done ≡ false → self.new.now ≡ self.old.now) }
+        ensures marked { self.new.marked ≡ self.old.marked }
+    {
+        let tail = self.tail.as_slice();
+        if tail.len() != 1 {
+            return Ok(false);
+        }
+        match compose_pair(tail[0], c) {
+            None => Ok(false),
+            Some(whole) => {
+                self.tail.clear();
+                self.tail.push(whole)?;
+                Ok(true)
             }
         }
+    }
+
+    /// Goes on with some of a text of any kind, and says with how much.
+    fn take_mixed<S: ClusterSink>(&mut self, text: &[u32], out: &mut S) -> Result<usize, AllocError>
+        requires text { IsText text.now }
+        requires some { 0 < length text.now }
+        ensures follows { (fed : List ℕ) (given : List (List ℕ)) → Follows self.old.now fed given
+            → IfOk result (λ n. (more : List (List ℕ)) × (Follows self.new.now (fed ++ take n text.now) (given ++ more))
+            × (S.given out.new ≡ with_clusters (S.given out.old) more)) }
+        ensures some { IfOk result (λ n. (0 < n) × (n ≤ length text.now)) }
+        ensures marked { self.new.marked ≡ self.old.marked }
+        ensures grew { Grew (S.given out.old) (S.given out.new) }
+    {
+        let n = unsafe_len(text);
+        if n == 0 {
+            return self.take_safe(text, out);
+        }
+        if self.compose_last(to_char(text[0]))? {
+            return Ok(1);
+        }
+        self.hold(&text[..n])?;
+        Ok(n)
     }
 
     /// The plain code point that is all that is held, where it is so.
@@ -221,9 +268,7 @@ impl Held {
                 return Ok(n);
             }
         }
-        let n = mixed_len(text);
-        self.take_mixed(&text[..n], out)?;
-        Ok(n)
+        self.take_mixed(text, out)
     }
 
     /// Goes on with the text.
@@ -260,18 +305,17 @@ impl Held {
     }
 }
 
-/// The place of the last code point that starts safely.
-fn last_safe(text: &[u32]) -> Option<usize>
+/// How many code points that do not start safely the text begins with.
+fn unsafe_len(text: &[u32]) -> usize
     requires { IsText text.now }
-    ensures { MatchOption result (none_safe text.now ≡ true)
-        (λ at. (at < length text.now) × (starts_safely (slice_index_or text.now at 0) ≡ true) × (none_safe (drop (at + 1) text.now) ≡ true)) }
+    ensures within { result ≤ length text.now }
+    ensures none { none_safe (take result text.now) ≡ true }
+    ensures next { result < length text.now → starts_safely (slice_index_or text.now result 0) ≡ true }
 {
-    let mut end = text.len();
-    while end > 0 {
-        end -= 1;
-        if starts_safely(text[end]) {
-            return Some(end);
+    for i in 0..text.len() {
+        if starts_safely(text[i]) {
+            return i;
         }
     }
-    None
+    text.len()
 }

@@ -1,17 +1,23 @@
 //! The cluster that is not finished.
-ghost use Rattle.std.specs.Prelude.{◌≡◌, ◌<◌, ℕ, List, [], ◌∷◌, ◌++◌, length, IsTrue, OnOk};
+ghost use Rattle.std.specs.Prelude.{◌≡◌, ◌<◌, ◌+◌, ℕ, true, List, [], ◌∷◌, ◌++◌, take, length, IsTrue, IfOk, OnOk};
+ghost use Rattle.std.specs.List.{slice_index_or};
 ghost use Rattle.nfg_text.specs.Breaks.{IsKindOf};
+ghost use Rattle.nfg_text.specs.Graphemes.{starts_safely};
+ghost use Rattle.nfg_text.specs.Text.{IsText};
 ghost use Rattle.nfg_segment.specs.Given.{Grew, with_cluster, with_clusters};
-ghost use Rattle.nfg_segment.specs.Held.{Keeps, is_some, ends_before, closed, left_open, next, next_all, closed_all, as_list};
+ghost use Rattle.nfg_segment.specs.Held.{Keeps, is_some, ends_before, closed, left_open, next, next_all, closed_all, as_list, all_safe};
 
 use crate::ClusterSink;
-use crate::draft::Draft;
-use nfg_text::{Kind, Memory};
+use crate::draft::{Draft, to_char};
+use nfg_text::{Kind, Memory, is_plain, starts_safely};
 use std::alloc::{AllocError, Global};
 use std::marker::Model;
 
 /// How many code points of a cluster are kept.
 const LONGEST: usize = 1024;
+
+/// How many plain code points in a row are gone on with one by one.
+const ROW: u32 = 3;
 
 /// A cluster that more code points may join, or none.
 #[derive(Drop)]
@@ -155,6 +161,24 @@ impl OpenCluster {
         Ok(())
     }
 
+    /// Goes on with the next code point of the NFC, which is of this kind.
+    #[inline]
+    fn push_kind<S: ClusterSink>(
+        &mut self,
+        c: char,
+        kind: Kind,
+        out: &mut S,
+    ) -> Result<(), AllocError>
+        requires { IsKindOf kind c }
+        ensures given { (cluster : List ℕ) → Keeps self.old.now cluster
+            → OnOk result ((Keeps self.new.now (next cluster c)) × (S.given out.new ≡ with_clusters (S.given out.old) (closed cluster c))) }
+        ensures marked { self.new.marked ≡ self.old.marked }
+        ensures grew { Grew (S.given out.old) (S.given out.new) }
+    {
+        self.close_before(c, kind, out)?;
+        self.join(c, kind)
+    }
+
     /// Goes on with the next code point of the NFC.
     pub(crate) fn push<S: ClusterSink>(&mut self, c: char, out: &mut S) -> Result<(), AllocError>
         ensures given { (cluster : List ℕ) → Keeps self.old.now cluster
@@ -162,9 +186,7 @@ impl OpenCluster {
         ensures marked { self.new.marked ≡ self.old.marked }
         ensures grew { Grew (S.given out.old) (S.given out.new) }
     {
-        let kind = Kind::of(c);
-        self.close_before(c, kind, out)?;
-        self.join(c, kind)
+        self.push_kind(c, Kind::of(c), out)
     }
 
     /// Goes on with the next code points of the NFC.
@@ -182,5 +204,49 @@ impl OpenCluster {
             self.push(*c, out)?;
         }
         Ok(())
+    }
+
+    /// Goes on with code points that start safely, each followed by another, and says where the last one
+    /// is, with which it does not go on. A row of plain ones is left to be taken as a whole.
+    pub(crate) fn push_safe<S: ClusterSink>(
+        &mut self,
+        text: &[u32],
+        out: &mut S,
+    ) -> Result<usize, AllocError>
+        requires text { IsText text.now }
+        requires some { 0 < length text.now }
+        requires first { starts_safely (slice_index_or text.now 0 0) ≡ true }
+        ensures given { (cluster : List ℕ) → Keeps self.old.now cluster
+            → IfOk result (λ n. (Keeps self.new.now (next_all cluster (take n text.now)))
+            × (S.given out.new ≡ with_clusters (S.given out.old) (closed_all cluster (take n text.now)))) }
+        ensures within { IfOk result (λ n. n < length text.now) }
+        ensures safe { IfOk result (λ n. all_safe (take (n + 1) text.now) ≡ true) }
+        ensures marked { self.new.marked ≡ self.old.marked }
+        ensures grew { Grew (S.given out.old) (S.given out.new) }
+    {
+        let mut at = 0;
+        let mut row = 0;
+        while at + 1 < text.len() {
+            if !starts_safely(text[at + 1]) {
+                return Ok(at);
+            }
+            row = row_with(row, text[at + 1]);
+            if row > ROW {
+                return Ok(at);
+            }
+            self.push(to_char(text[at]), out)?;
+            at += 1;
+        }
+        Ok(at)
+    }
+}
+
+/// How many plain code points there are in a row, with one code point more.
+#[inline]
+fn row_with(row: u32, c: u32) -> u32 {
+    if is_plain(c) {
+        row.saturating_add(1)
+    } else {
+        0
     }
 }

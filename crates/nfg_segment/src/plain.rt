@@ -4,9 +4,6 @@ ghost use Rattle.nfg_text.specs.Plain.{AllPlain};
 
 use nfg_text::is_plain;
 
-/// How much of a text is gone on with at once where it is not plain.
-const MOST: usize = 1024;
-
 /// How many code points are looked at together.
 const BLOCK: usize = 16;
 
@@ -44,39 +41,4 @@ fn are_plain(block: &[u32]) -> bool
         all &= is_plain(*c);
     }
     all
-}
-
-/// How much of the text to go on with at once: up to a row of plain code points, and no more than
-/// MOST. A row of two will do, unless something before it may have to be composed; then it takes a
-/// longer one to pay.
-pub(crate) fn mixed_len(text: &[u32]) -> usize
-    requires { 0 < length text.now }
-    ensures some { 0 < result }
-    ensures within { result ≤ length text.now }
-{
-    let most = text.len().min(MOST);
-    let mut enough = 2u32;
-    let mut row = 0u32;
-    for i in 0..most {
-        let c = text[i];
-        if is_plain(c) {
-            row = row.saturating_add(1);
-            if row >= enough {
-                return i + 1;
-            }
-        } else {
-            row = 0;
-            if may_compose(c) {
-                enough = 16;
-            }
-        }
-    }
-    most
-}
-
-/// Whether the code point lies where combining marks and jamo may lie: outside of Latin-1, of
-/// punctuation and symbols, and of fullwidth forms.
-#[inline]
-fn may_compose(c: u32) -> bool {
-    (c >= 0x300) & ((c < 0x2000) | (c > 0x3030)) & ((c < 0xFF00) | (c > 0xFFEF))
 }

@@ -6,6 +6,3 @@ take_plain-requires-clause-text g c = IsText-take c.plain_len-n.result c.args.te
 
 pub returns-then-n-gt0-clause-follows : goal.returns-then-n-gt0-clause-follows
 returns-then-n-gt0-clause-follows g c fed given f = c.in_ok-take_plain.ensures.follows fed given c.in-Some.ensures.0 (c.in-Some.ensures.1 fed given f)
-
-pub take_mixed-requires : goal.take_mixed-requires
-take_mixed-requires g c = IsText-take c.mixed_len-n.result c.args.text.now c.requires.text
