@@ -9,7 +9,7 @@ ghost use Rattle.nfg_segment.specs.Held.{Keeps, is_some, ends_before, closed, le
 
 use crate::ClusterSink;
 use crate::draft::{Draft, to_char};
-use nfg_text::{Kind, Memory, is_plain, starts_safely};
+use nfg_text::{Kind, Memory, is_plain};
 use std::alloc::{AllocError, Global};
 use std::marker::Model;
 
@@ -224,17 +224,20 @@ impl OpenCluster {
         ensures marked { self.new.marked ≡ self.old.marked }
         ensures grew { Grew (S.given out.old) (S.given out.new) }
     {
+        let mut kind = Kind::of(to_char(text[0]));
         let mut at = 0;
         let mut row = 0;
         while at + 1 < text.len() {
-            if !starts_safely(text[at + 1]) {
+            let next = Kind::of(to_char(text[at + 1]));
+            row = row_with(row, text[at + 1]);
+            if !next.starts_safely() {
                 return Ok(at);
             }
-            row = row_with(row, text[at + 1]);
             if row > ROW {
                 return Ok(at);
             }
-            self.push(to_char(text[at]), out)?;
+            self.push_kind(to_char(text[at]), kind, out)?;
+            kind = next;
             at += 1;
         }
         Ok(at)

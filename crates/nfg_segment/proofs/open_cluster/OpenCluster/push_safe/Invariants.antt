@@ -1,4 +1,5 @@
-use Rattle.std.proofs.Common.{◌≡◌, ◌+◌, ◌-◌, ◌<◌, true, List, ℕ, take, length}
+use Rattle.std.proofs.Common.{◌≡◌, ◌+◌, ◌-◌, ◌<◌, true, List, ℕ, take, length, get_or}
+use Rattle.nfg_text.specs.Breaks.{IsKindOf}
 use Rattle.nfg_segment.specs.Given.{with_clusters, Grew}
 use Rattle.nfg_segment.specs.Held.{Keeps, next_all, closed_all, all_safe}
 use Rattle.nfg_segment.proofs.open_cluster.OpenCluster.push_safe.Given as goal
@@ -9,6 +10,7 @@ invariant-loop-at g l = record {
       → (Keeps l.self.now (next_all cluster (take l.at l.text)))
       × (g.S.ClusterSink.given l.out ≡ with_clusters (g.S.ClusterSink.given l.initial.out) (closed_all cluster (take l.at l.text)));
   within : l.at < length l.text;
+  kind : IsKindOf l.kind (get_or l.text l.at 0);
   safe : all_safe (take (l.at + 1) l.text) ≡ true;
   marked : l.self.marked ≡ l.initial.self.marked;
   grew : Grew (g.S.ClusterSink.given l.initial.out) (g.S.ClusterSink.given l.out);

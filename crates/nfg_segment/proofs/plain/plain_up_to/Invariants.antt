@@ -1,6 +1,6 @@
 use Rattle.std.proofs.Common.{◌≤◌, ◌-◌, take, length}
 use Rattle.nfg_text.specs.Plain.{AllPlain}
-use Rattle.nfg_segment.proofs.plain.plain_len.Given as goal
+use Rattle.nfg_segment.proofs.plain.plain_up_to.Given as goal
 
 abbrev pub invariant-loop-at : goal.invariant-loop-at
 invariant-loop-at l = record {
