@@ -22,6 +22,7 @@ pub mod Parts
 pub mod Places
 pub mod PlainFacts
 pub mod PlainRuns
+pub mod PlainTable
 pub mod PropertyFacts
 pub mod PropertyParts
 pub mod Proved

@@ -21,7 +21,7 @@ use Rattle.nfg_text.specs.Plain.{stands_apart, is_none, is_ordinary}
 use Rattle.nfg_text.specs.Properties.{bit, properties_number, is_plain_number}
 use Rattle.nfg_text.proofs.Everywhere.{at_all, always}
 
-unfoldable safe_stepped : Stepped starts_safely
+unfoldable pub safe_stepped : Stepped starts_safely
 unfolding canonical_combining_class_stepped quick_check_stepped
 safe_stepped =
     zip_stepped (λ n v. (n == 0) && is_yes v) canonical_combining_class (quick_check Nfc) canonical_combining_class_stepped (quick_check_stepped Nfc)
@@ -62,13 +62,13 @@ same_if true false h = cc
 same_if false true h = cc
 same_if false false h = refl
 
-unfoldable ordinary_stepped : Stepped is_ordinary
+unfoldable pub ordinary_stepped : Stepped is_ordinary
 unfolding is_ordinary grapheme_cluster_break_stepped indic_conjunct_break_stepped is_extended_pictographic_stepped
 ordinary_stepped =
     zip_stepped (λ v b. stands_apart v && b) grapheme_cluster_break (λ c. is_none (indic_conjunct_break c) && not (is_extended_pictographic c)) grapheme_cluster_break_stepped
     (zip_stepped (λ w b. is_none w && not b) indic_conjunct_break is_extended_pictographic indic_conjunct_break_stepped is_extended_pictographic_stepped)
 
-unfoldable safe_ordinary_stepped : Stepped (λ c. starts_safely c && is_ordinary c)
+unfoldable pub safe_ordinary_stepped : Stepped (λ c. starts_safely c && is_ordinary c)
 unfolding safe_stepped ordinary_stepped
 safe_ordinary_stepped = zip_stepped ◌&&◌ starts_safely is_ordinary safe_stepped ordinary_stepped
 

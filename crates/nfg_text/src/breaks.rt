@@ -3,6 +3,7 @@ ghost use Rattle.std.specs.Prelude.{◌≡◌, ◌<◌, ℕ, true, List, [], ◌
 ghost use Rattle.unicode_segmentation.specs.Grapheme.{break_by_pair, is_consonant, is_extend, is_zwj, is_regional, is_grapheme_break};
 ghost use Rattle.nfg_text.specs.Breaks.{IsKindOf, Remembers, is_linked_after, breaks_by_memory};
 ghost use Rattle.nfg_text.specs.Graphemes.{cluster_ends, starts_safely};
+ghost use Rattle.nfg_text.specs.Plain.{is_plain, is_none, stands_apart};
 ghost use Rattle.nfg_text.specs.Text.{IsText};
 
 use crate::EndList;
@@ -44,6 +45,15 @@ impl Kind {
         ensures { (c : ℕ) → IsKindOf self c → result ≡ starts_safely c }
     {
         self.starts_safely
+    }
+
+    /// Whether the code point is plain.
+    #[inline]
+    pub fn is_plain(self) -> bool
+        ensures { (c : ℕ) → c < 0x11_0000 → IsKindOf self c → result ≡ is_plain c }
+    {
+        self.starts_safely
+            & (stands_apart(self.class) & (is_none(self.conjunct) & !self.is_pictograph))
     }
 }
 
@@ -168,6 +178,20 @@ fn is_linked_after(conjunct: IndicConjunctBreak, before: bool) -> bool
         IndicConjunctBreak::Extend => before,
         _ => false,
     }
+}
+
+#[inline]
+fn stands_apart(class: GraphemeClusterBreak) -> bool
+    ensures { result ≡ stands_apart class }
+{
+    matches!(class, Other | Lv | Lvt)
+}
+
+#[inline]
+fn is_none(conjunct: IndicConjunctBreak) -> bool
+    ensures { result ≡ is_none conjunct }
+{
+    matches!(conjunct, IndicConjunctBreak::None)
 }
 
 #[inline]

@@ -9,6 +9,7 @@ mod breaks;
 pub mod laws;
 mod list;
 mod normal;
+mod plain_table;
 mod properties;
 mod property_table;
 #[cfg(test)]

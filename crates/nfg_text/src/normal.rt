@@ -9,7 +9,7 @@ ghost use Rattle.nfg_text.specs.Plain.{is_plain};
 ghost use Rattle.nfg_text.specs.Text.{IsText};
 
 use crate::CodeList;
-use crate::properties::{is_plain_number, properties_of};
+use crate::properties::{is_plain_by_table, is_plain_number, properties_of};
 use std::alloc::{AllocError, Global};
 use unicode_normalization::char::compose;
 use unicode_normalization::slice::extend_nfc;
@@ -42,6 +42,9 @@ pub fn starts_safely(c: u32) -> bool
 pub fn is_plain(c: u32) -> bool
     ensures { result ≡ is_plain c }
 {
+    if c < 0x1_0000 {
+        return is_plain_by_table(c);
+    }
     c < 0x11_0000 && is_plain_number(properties_of(c))
 }
 

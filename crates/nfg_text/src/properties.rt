@@ -2,8 +2,10 @@
 ghost use Rattle.std.specs.Prelude.{◌≡◌, ◌<◌};
 ghost use Rattle.ucd_breaks.specs.GraphemeClusterBreak.{grapheme_cluster_break_from_number};
 ghost use Rattle.ucd_derived.specs.IndicConjunctBreak.{indic_conjunct_break_from_number};
+ghost use Rattle.nfg_text.specs.Plain.{is_plain};
 ghost use Rattle.nfg_text.specs.Properties.{properties_number, is_plain_number};
 
+use crate::plain_table::{PLAIN_INDEX, PLAIN_TAIL, PLAIN_WORDS};
 use crate::property_table::{INDEX, TAIL, WORDS};
 use ucd_breaks::GraphemeClusterBreak;
 use ucd_breaks::GraphemeClusterBreak::*;
@@ -17,6 +19,15 @@ pub(crate) fn properties_of(c: u32) -> u32
     ensures { result ≡ properties_number c }
 {
     ucd_table::get::<8, 8>(&INDEX, &WORDS, &TAIL, c)
+}
+
+/// Whether a code point of the first plane is plain.
+#[inline(always)]
+pub(crate) fn is_plain_by_table(c: u32) -> bool
+    requires { c < 0x1_0000 }
+    ensures { result ≡ is_plain c }
+{
+    ucd_table::get::<1, 64>(&PLAIN_INDEX, &PLAIN_WORDS, &PLAIN_TAIL, c) == 1
 }
 
 /// Whether the number is that of a plain code point.
