@@ -18,51 +18,86 @@ const SHORT: usize = 1024 * 1024;
 
 const LONG: usize = 16 * SHORT;
 
-/// More bytes than any text here has.
+/// At most so many bytes are fed to a stream.
 const MOST: usize = 1 << 32;
 
-/// Decodes the bytes in pieces.
-fn decode(
-    alloc: Global,
+/// How bytes are fed: in pieces of a length, into a list that is emptied when it has so many codes.
+#[derive(Clone, Copy)]
+struct Feeding {
     encoding: Encoding,
-    bytes: &[u8],
     piece_len: usize,
-    into: &mut CodeList,
-) -> Result<(), DecodeError>
-    requires { length bytes.now ≤ 2 ^ 32 }
-{
-    let mut stream = ByteStream::new(encoding);
-    let mut rest = bytes;
-    while !rest.is_empty() {
-        let (piece, after) = rest.split_at(rest.len().min(piece_len).max(1));
-        stream.feed(alloc, piece, into)?;
-        rest = after;
-    }
-    stream.finish()
+    room: usize,
 }
 
-/// How many code points the bytes are, decoded in pieces of a length into a list of its own.
-fn count(alloc: Global, encoding: Encoding, bytes: &[u8], piece_len: usize) -> usize {
+/// In pieces of 64 KiB, into a list that stays short.
+fn by_pieces(encoding: Encoding) -> Feeding {
+    Feeding {
+        encoding,
+        piece_len: PIECE,
+        room: PIECE,
+    }
+}
+
+/// Byte by byte, into the same list.
+fn by_bytes(encoding: Encoding) -> Feeding {
+    Feeding {
+        encoding,
+        piece_len: 1,
+        room: PIECE,
+    }
+}
+
+/// Empties a list that is full, and answers how many codes it had.
+fn emptied(into: &mut CodeList, room: usize) -> usize {
+    let len = into.len();
+    if len < room {
+        return 0;
+    }
+    into.truncate(0);
+    len
+}
+
+/// Decodes the bytes, and answers how many code points they are.
+fn decode(alloc: Global, feeding: Feeding, bytes: &[u8]) -> Result<usize, DecodeError>
+    requires { length bytes.now ≤ 2 ^ 32 }
+{
+    let mut into = CodeList::new(alloc);
+    let mut stream = ByteStream::new(feeding.encoding);
+    let mut codes: usize = 0;
+    let mut rest = bytes;
+    while !rest.is_empty() {
+        let (piece, after) = rest.split_at(rest.len().min(feeding.piece_len).max(1));
+        stream.feed(alloc, piece, &mut into)?;
+        codes = codes.wrapping_add(emptied(&mut into, feeding.room));
+        rest = after;
+    }
+    stream.finish()?;
+    Ok(codes.wrapping_add(into.len()))
+}
+
+/// How many code points the bytes are, and none where they are refused.
+fn count(alloc: Global, feeding: Feeding, bytes: &[u8]) -> usize {
     if bytes.len() > MOST {
         return 0;
     }
-    let mut into = CodeList::new(alloc);
-    match decode(alloc, encoding, bytes, piece_len, &mut into) {
-        Ok(()) => into.len(),
-        Err(_) => 0,
-    }
+    decode(alloc, feeding, bytes).unwrap_or(0)
 }
 
-/// ASCII beside the plain widening loop.
+/// ASCII beside the plain widening loop, both into a list of all code points.
 #[derive(Drop)]
-struct Widening<'a> {
+struct WholeAscii<'a> {
     alloc: Global,
     bytes: &'a [u8],
 }
 
-impl Comparison for Widening<'_> {
+impl Comparison for WholeAscii<'_> {
     fn fast(&self, _run: usize) -> usize {
-        count(self.alloc, Encoding::Utf8, self.bytes, PIECE)
+        let feeding = Feeding {
+            encoding: Encoding::Utf8,
+            piece_len: PIECE,
+            room: usize::MAX,
+        };
+        count(self.alloc, feeding, self.bytes)
     }
 
     fn plain(&self, _run: usize) -> usize {
@@ -73,29 +108,47 @@ impl Comparison for Widening<'_> {
     }
 }
 
+/// The same, both into a list that stays short.
+#[derive(Drop)]
+struct Ascii<'a> {
+    alloc: Global,
+    bytes: &'a [u8],
+}
+
+impl Comparison for Ascii<'_> {
+    fn fast(&self, _run: usize) -> usize {
+        count(self.alloc, by_pieces(Encoding::Utf8), self.bytes)
+    }
+
+    fn plain(&self, _run: usize) -> usize {
+        plain::widened_by_pieces(self.alloc, self.bytes, PIECE).unwrap_or(0)
+    }
+}
+
 /// A long text beside as many bytes of short ones.
 #[derive(Drop)]
 struct Long<'a> {
     alloc: Global,
     encoding: Encoding,
     bytes: &'a [u8],
+    short: usize,
 }
 
 impl Comparison for Long<'_> {
     fn fast(&self, _run: usize) -> usize {
-        count(self.alloc, self.encoding, self.bytes, PIECE)
+        count(self.alloc, by_pieces(self.encoding), self.bytes)
     }
 
     fn plain(&self, _run: usize) -> usize {
         let mut codes: usize = 0;
-        for part in self.bytes.chunks(SHORT) {
-            codes = codes.wrapping_add(count(self.alloc, self.encoding, part, PIECE));
+        for part in self.bytes.chunks(self.short.max(1)) {
+            codes = codes.wrapping_add(count(self.alloc, by_pieces(self.encoding), part));
         }
         codes
     }
 }
 
-/// Pieces beside single bytes.
+/// Pieces of 64 KiB beside single bytes.
 #[derive(Drop)]
 struct Pieces<'a> {
     alloc: Global,
@@ -105,22 +158,29 @@ struct Pieces<'a> {
 
 impl Comparison for Pieces<'_> {
     fn fast(&self, _run: usize) -> usize {
-        count(self.alloc, self.encoding, self.bytes, PIECE)
+        count(self.alloc, by_pieces(self.encoding), self.bytes)
     }
 
     fn plain(&self, _run: usize) -> usize {
-        count(self.alloc, self.encoding, self.bytes, 1)
+        count(self.alloc, by_bytes(self.encoding), self.bytes)
     }
 }
 
 fn report_ascii(rt: &(impl Print + Clock), alloc: Global) -> io::Result<()> {
     let bytes = texts::repeated(alloc, texts::ASCII.as_bytes(), LONG)?;
     let bytes = bytes.as_slice();
+    let len = bytes.len();
     compare_few(
         rt,
-        "ASCII by the widening loop",
-        bytes.len(),
-        &Widening { alloc, bytes },
+        "ASCII by the widening loop, into all",
+        len,
+        &WholeAscii { alloc, bytes },
+    )?;
+    compare_few(
+        rt,
+        "ASCII by the widening loop, in parts",
+        len,
+        &Ascii { alloc, bytes },
     )
 }
 
@@ -133,21 +193,23 @@ fn report_sample(
 ) -> io::Result<()> {
     let bytes = texts::repeated(alloc, sample, LONG)?;
     let bytes = bytes.as_slice();
+    let short = texts::whole_len(sample, SHORT);
     println!(rt; "{name}")?;
     compare_few(
         rt,
-        " at length, by short texts",
+        " 16 MiB by 1 MiB",
         bytes.len(),
         &Long {
             alloc,
             encoding,
             bytes,
+            short,
         },
     )?;
-    let bytes = &bytes[..SHORT.min(bytes.len())];
+    let bytes = &bytes[..short.min(bytes.len())];
     compare_few(
         rt,
-        " in pieces, by single bytes",
+        " 64 KiB by bytes",
         bytes.len(),
         &Pieces {
             alloc,

@@ -55,6 +55,11 @@ pub const EMOJI: &str = "\
 \u{FE0F} 1\u{FE0F}\u{20E3} \u{1F469}\u{1F3FE}\u{200D}\u{1F680} \u{1F600} great \u{1F389}\
 \u{1F389} \u{1F937}\u{1F3FB}\u{200D}\u{2640}\u{FE0F}\n";
 
+/// How many bytes as many whole samples have as the size has room for.
+pub fn whole_len(sample: &[u8], size: usize) -> usize {
+    size - size % sample.len().max(1)
+}
+
 /// The sample again and again, as many whole ones as the size has room for.
 pub fn repeated(alloc: Global, sample: &[u8], size: usize) -> Result<Vec<u8>, AllocError> {
     let mut bytes = Vec::new(alloc);
