@@ -7,6 +7,7 @@ mod blocks;
 mod decode;
 mod lanes;
 mod plain;
+mod strand;
 mod texts;
 mod timing;
 
@@ -19,8 +20,9 @@ fn main(rt: HostRuntime) -> io::Result<()> {
             "lanes" => lanes::report(&rt, rt.alloc()),
             "blocks" => blocks::report(&rt, rt.alloc()),
             "decode" => decode::report(&rt, rt.alloc()),
+            "strand" => strand::report(&rt, rt.alloc()),
             _ => println!(rt; "No such subject: {word}"),
         },
-        None => println!(rt; "Name what to time: lanes, blocks, decode"),
+        None => println!(rt; "Name what to time: lanes, blocks, decode, strand"),
     }
 }
