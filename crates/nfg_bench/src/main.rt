@@ -6,6 +6,7 @@ use std::{env, io};
 mod blocks;
 mod decode;
 mod lanes;
+mod pipeline;
 mod plain;
 mod strand;
 mod texts;
