@@ -1,5 +1,6 @@
 //! Decoding by nfg_decode: beside the plain widening loop, ever more bytes, and byte by byte.
-ghost use Rattle.std.specs.Prelude.{◌≡◌, ◌^◌, ◌≤◌, length};
+ghost use Rattle.std.specs.Prelude.{◌≡◌, ◌+◌, ◌^◌, ◌≤◌, length, OnOk};
+ghost use Rattle.nfg_decode.specs.Stream.{fed_count};
 
 use crate::plain;
 use crate::texts::{self, ByteOrder};
@@ -21,40 +22,50 @@ const LONG: usize = 16 * SHORT;
 /// At most so many bytes are fed to a stream.
 const MOST: usize = 1 << 32;
 
-/// How bytes are fed: in pieces of a length, into a list that is emptied when it has so many codes.
+/// How bytes are fed: in pieces of a length, and how many bytes until the list is emptied.
 #[derive(Clone, Copy)]
 struct Feeding {
     encoding: Encoding,
     piece_len: usize,
-    room: usize,
+    part_len: usize,
 }
 
-/// In pieces of 64 KiB, into a list that stays short.
+/// In pieces of 64 KiB, each of which finds an empty list.
 fn by_pieces(encoding: Encoding) -> Feeding {
     Feeding {
         encoding,
         piece_len: PIECE,
-        room: PIECE,
+        part_len: PIECE,
     }
 }
 
-/// Byte by byte, into the same list.
+/// Byte by byte, and as many bytes until the list is emptied.
 fn by_bytes(encoding: Encoding) -> Feeding {
     Feeding {
         encoding,
         piece_len: 1,
-        room: PIECE,
+        part_len: PIECE,
     }
 }
 
-/// Empties a list that is full, and answers how many codes it had.
-fn emptied(into: &mut CodeList, room: usize) -> usize {
-    let len = into.len();
-    if len < room {
-        return 0;
+/// Feeds the bytes in pieces of a length.
+fn feed_part(
+    alloc: Global,
+    stream: &mut ByteStream,
+    part: &[u8],
+    piece_len: usize,
+    into: &mut CodeList,
+) -> Result<(), DecodeError>
+    requires { fed_count stream.old + length part.now ≤ 2 ^ 32 }
+    ensures { OnOk result (fed_count stream.new ≡ fed_count stream.old + length part.now) }
+{
+    let mut rest = part;
+    while !rest.is_empty() {
+        let (piece, after) = rest.split_at(rest.len().min(piece_len).max(1));
+        stream.feed(alloc, piece, into)?;
+        rest = after;
     }
-    into.truncate(0);
-    len
+    Ok(())
 }
 
 /// Decodes the bytes, and answers how many code points they are.
@@ -66,13 +77,14 @@ fn decode(alloc: Global, feeding: Feeding, bytes: &[u8]) -> Result<usize, Decode
     let mut codes: usize = 0;
     let mut rest = bytes;
     while !rest.is_empty() {
-        let (piece, after) = rest.split_at(rest.len().min(feeding.piece_len).max(1));
-        stream.feed(alloc, piece, &mut into)?;
-        codes = codes.wrapping_add(emptied(&mut into, feeding.room));
+        let (part, after) = rest.split_at(rest.len().min(feeding.part_len).max(1));
+        into.truncate(0);
+        feed_part(alloc, &mut stream, part, feeding.piece_len, &mut into)?;
+        codes = codes.wrapping_add(into.len());
         rest = after;
     }
     stream.finish()?;
-    Ok(codes.wrapping_add(into.len()))
+    Ok(codes)
 }
 
 /// How many code points the bytes are, and none where they are refused.
@@ -95,7 +107,7 @@ impl Comparison for WholeAscii<'_> {
         let feeding = Feeding {
             encoding: Encoding::Utf8,
             piece_len: PIECE,
-            room: usize::MAX,
+            part_len: usize::MAX,
         };
         count(self.alloc, feeding, self.bytes)
     }

@@ -3,17 +3,24 @@ use Rattle.std.proofs.Common.{◌≡◌, ℕ, ◌+◌, ◌-◌, ◌*◌, ◌/◌
 use Rattle.std.proofs.lemmas.Bool.{cases_lt}
 use Rattle.std.proofs.lemmas.List.{append-nil, take_all, drop_all}
 use Rattle.std.proofs.lemmas.Str.{IsUtf8-encode}
-use Rattle.std.specs.Prelude.{Ok}
+use Rattle.std.specs.Prelude.{Some, None, Ok}
 use Rattle.simdutf8.proofs.Chars.{least_is, most_is}
 use lib.Utf8.{scalar, encode, low_scalar}
 use Rattle.nfg_decode.specs.declared.encoding.Encoding.{Encoding}
 use Rattle.nfg_decode.specs.declared.encoding.Encoding.TheVariants.{Utf8}
 use Rattle.nfg_decode.specs.declared.tail.Tail.{Tail}
 use Rattle.nfg_decode.specs.declared.tail.Tail.TheVariants.{Empty}
+use Rattle.nfg_decode.specs.declared.reading.Form.{Form}
+use Rattle.nfg_decode.specs.declared.state.State.{State}
+use Rattle.nfg_decode.specs.declared.step.Step.{Step}
+use Rattle.nfg_decode.specs.declared.step.Step.TheVariants.{Whole, Held, Other}
 use Rattle.nfg_decode.specs.Encoding.{decode}
 use Rattle.nfg_decode.specs.Reads.{IsUnfinished}
-use Rattle.nfg_decode.specs.Reading.{ReadsOn}
+use Rattle.nfg_decode.specs.Reading.{as_encoding, ReadsOn}
+use Rattle.nfg_decode.specs.State.{IsOpen, HasAdvanced, StepsOn, open_next}
+use Rattle.nfg_decode.specs.Step.{StepsTo}
 use Rattle.nfg_decode.specs.Tail.{bytes_of}
+use Rattle.nfg_decode.proofs.StateLemmas.{between, ready_by_form, still_open}
 use Rattle.nfg_decode.proofs.ReadsLemmas.{decode-nil, IsUnfinished-end}
 use Rattle.nfg_decode.proofs.Utf8Laws.{decode_utf8_text, chars_of_one}
 use Rattle.nfg_decode.proofs.Utf8Tails.{decode_is_utf8, Leads, Follows}
@@ -104,16 +111,45 @@ one_item (x ∷ []) some few = refl
 one_item (x ∷ y ∷ l) some few = absurd (omega arith)
 
 module _ (e : Encoding) (held piece old : List ℕ) (some : 1 ≤ length piece) (few : length piece < 2) where
-  abbrev bytes : List ℕ
-  bytes = held ++ get_or piece 0 0 ∷ []
+  abbrev joined : List ℕ
+  joined = held ++ get_or piece 0 0 ∷ []
 
-  pub whole_read_on : (new : List ℕ) (code n : ℕ) → decode e bytes ≡ Ok (code ∷ []) → n ≡ length held + 1 → new ≡ old ++ code ∷ []
+  whole_read_on : (new : List ℕ) (code n : ℕ) → decode e joined ≡ Ok (code ∷ []) → n ≡ length held + 1 → new ≡ old ++ code ∷ []
       → ReadsOn e (held ++ piece) old new (record { settled = n; tail = Empty; is_malformed = false })
   whole_read_on new code n is len added =
       subst (λ l. ReadsOn e (held ++ l) old new (record { settled = n; tail = Empty; is_malformed = false })) (sym (one_item piece some few))
-      (whole_read e bytes old new code n is (omega (arith, length-append held (get_or piece 0 0 ∷ []))) added)
+      (whole_read e joined old new code n is (omega (arith, length-append held (get_or piece 0 0 ∷ []))) added)
 
-  pub held_read_on : (tail : Tail) → bytes_of tail ≡ bytes → IsUnfinished e bytes → ReadsOn e (held ++ piece) old old (record { settled = 0; tail = tail; is_malformed = false })
+  held_read_on : (tail : Tail) → bytes_of tail ≡ joined → IsUnfinished e joined → ReadsOn e (held ++ piece) old old (record { settled = 0; tail = tail; is_malformed = false })
   held_read_on tail is unfinished =
       subst (λ l. ReadsOn e (held ++ l) old old (record { settled = 0; tail = tail; is_malformed = false })) (sym (one_item piece some few))
-      (held_read e bytes old tail is unfinished)
+      (held_read e joined old tail is unfinished)
+
+module _ (s : State) (form : Form) (piece : List ℕ) (is : s.form ≡ Some form) (some : 1 ≤ length piece) (few : length piece < 2) where
+  abbrev held : List ℕ
+  held = bytes_of s.tail
+
+  -- what the state is then, where the step reads on
+  read_step : (e : Encoding) (bytes old new : List ℕ) (at : ℕ) (tail : Tail) → ReadsOn (as_encoding form) (held ++ piece) old new (record { settled = at; tail = tail; is_malformed = false })
+      → IsOpen s e bytes → HasAdvanced e bytes piece old new (open_next s (s.settled + at) tail)
+  read_step e bytes old new at tail reads h =
+      let b = between s e bytes piece (record { form = s.form; tail = s.tail; mark = 0; used = 0 }) form is (ready_by_form s form e bytes piece is h) in
+      subst (λ f. HasAdvanced e bytes piece old new (record { state = record { form = f; settled = s.settled + at; tail = tail }; malformed = None })) (sym is)
+      (still_open (s.settled + 0) e bytes piece form held piece old new b.0 b.1 (record { settled = at; tail = tail; is_malformed = false }) reads (s.settled + at) (omega arith) refl)
+
+  pub steps_on : (step : Step) → StepsTo (as_encoding form) (held ++ get_or piece 0 0 ∷ []) step → StepsOn s piece step
+  steps_on (Whole code) to = (
+    omega arith,
+    λ e bytes old h.
+        let n = length held + 1 in
+        let reads = whole_read_on (as_encoding form) held piece old some few (old ++ code ∷ []) code n to refl refl in
+        subst (λ k. HasAdvanced e bytes piece old (old ++ code ∷ []) (open_next s k Empty)) (omega arith) (read_step e bytes old (old ++ code ∷ []) n Empty reads h),
+  )
+  steps_on (Held tail) to = (
+    omega arith,
+    ap length to.0 ∙ length-append held (get_or piece 0 0 ∷ []),
+    λ e bytes old h.
+        let reads = held_read_on (as_encoding form) held piece old some few tail to.0 to.1 in
+        subst (λ k. HasAdvanced e bytes piece old old (open_next s k tail)) (omega arith) (read_step e bytes old old 0 tail reads h),
+  )
+  steps_on Other to = tt
