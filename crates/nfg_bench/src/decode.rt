@@ -3,24 +3,13 @@ ghost use Rattle.std.specs.Prelude.{◌≡◌, ◌+◌, ◌^◌, ◌≤◌, leng
 ghost use Rattle.nfg_decode.specs.Stream.{fed_count};
 
 use crate::plain;
-use crate::texts::{self, ByteOrder};
+use crate::texts::{self, ByteOrder, LONG, MOST, PIECE, SHORT};
 use crate::timing::{Comparison, compare_few};
 use nfg_decode::{ByteStream, DecodeError, Encoding};
 use nfg_text::CodeList;
 use std::alloc::{AllocError, Global};
 use std::io;
 use std::rt::Clock;
-
-/// The bytes of a piece.
-const PIECE: usize = 64 * 1024;
-
-/// The bytes of a short text and of a long one.
-const SHORT: usize = 1024 * 1024;
-
-const LONG: usize = 16 * SHORT;
-
-/// At most so many bytes are fed to a stream.
-const MOST: usize = 1 << 32;
 
 /// How bytes are fed: in pieces of a length, and how many bytes until the list is emptied.
 #[derive(Clone, Copy)]

@@ -8,6 +8,16 @@ use nfg_syn::{OwnPass, OwnTable, Synthetics};
 use nfg_text::{CodeList, cluster_ends, nfc_of};
 use std::alloc::{AllocError, Global};
 
+/// The places of a table.
+const PLACES: u32 = 1 << 16;
+
+/// A new table and its pass.
+pub fn new_table(alloc: Global) -> Result<(OwnTable, OwnPass), AllocError>
+    ensures { IfOk result (λ made. IsOwnPass made.0 made.1) }
+{
+    OwnTable::new(alloc, PLACES)
+}
+
 /// The code points of bytes in UTF-8, if they are a text.
 fn decoded(alloc: Global, bytes: &[u8]) -> Option<CodeList>
     requires { length bytes.now ≤ 2 ^ 32 }
@@ -68,8 +78,8 @@ fn numbers_of(
     Ok(numbers)
 }
 
-/// The numbers of the graphemes of bytes in UTF-8, over a table of so many places. There are none
-/// where the bytes are no text.
+/// The numbers of the graphemes of bytes in UTF-8, over a table. There are none where the bytes are no
+/// text.
 pub fn load(
     alloc: Global,
     table: &OwnTable,

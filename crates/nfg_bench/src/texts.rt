@@ -1,6 +1,17 @@
 //! The texts that are timed: sentences of several scripts, again and again up to a size.
 use std::alloc::{AllocError, Global};
 
+/// The bytes of a piece.
+pub const PIECE: usize = 64 * 1024;
+
+/// The bytes of a short text and of a long one.
+pub const SHORT: usize = 1024 * 1024;
+
+pub const LONG: usize = 16 * SHORT;
+
+/// At most so many bytes are fed to a stream.
+pub const MOST: usize = 1 << 32;
+
 /// ASCII.
 pub const ASCII: &str = "\
 The ferry left at seven, as it does each morning.\nNobody on the pier had seen the lamp go out; \
