@@ -120,7 +120,6 @@ impl ByteStream {
         }
     }
 
-    #[inline(never)]
     #[tactic(auto, unfolding(crate::specs::Stream::fed_count))]
     fn take_any(&mut self, piece: &[u8], into: &mut CodeList) -> Result<(), DecodeError>
         requires { fed_count self.old + length piece.now ≤ 2 ^ 32 }
