@@ -1,0 +1,10 @@
+//! Scripts of string operations are read.
+#![tactic(auto)]
+
+mod command;
+mod error;
+mod script;
+
+pub use command::Command;
+pub use error::{Reason, ScriptError};
+pub use script::{Script, parse};
