@@ -44,7 +44,7 @@ abbrev pub and_command : ReadSoFar → (line : ℕ) → LineRead → ReadSoFar
 and_command so_far line read = record {
   names = and_defined so_far.names read.defines;
   commands = so_far.commands
-    ++ record { line = line; command = read.command; path = read.path; codes = read.codes } ∷ [];
+      ++ record { line = line; command = read.command; path = read.path; codes = read.codes } ∷ [];
 }
 
 -- one more line, of these words

@@ -1,10 +1,10 @@
 -- The commands of the script language, and their lines (this project's own).
-use Rattle.std.specs.Prelude.{ℕ, Bool, true, false, ◌==◌, if◌then◌else◌, List, [], ◌∷◌, slice_index, codes, bytes_eq, Option, Some, None, Result, Ok, Err}
+use Rattle.std.specs.Prelude.{ℕ, Bool, true, ◌==◌, if◌then◌else◌, List, [], ◌∷◌, slice_index, codes, bytes_eq, Option, Some, None, Result, Ok, Err}
 use Rattle.nfg_script.specs.declared.command.Command.{Command}
 use Rattle.nfg_script.specs.declared.command.Command.TheVariants.{Load, Text, Sub, Len, Show, Shape, Put}
 use Rattle.nfg_script.specs.declared.error.Reason.{Reason}
 use Rattle.nfg_script.specs.declared.error.Reason.TheVariants.{BadCommand, WordCount}
-use Rattle.nfg_script.specs.Words.{◌>>=◌, words_of, new_name, known_name, number_of, encoding_of, code_points_of}
+use Rattle.nfg_script.specs.Words.{◌>>=◌, new_name, known_name, number_of, encoding_of, code_points_of}
 
 -- what a line gives
 pub record LineRead : Type 0 where
