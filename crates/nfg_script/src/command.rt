@@ -5,9 +5,14 @@ use nfg_decode::Encoding;
 #[derive(Clone, Copy, Debug, PartialEq, Eq)]
 pub enum Command {
     /// The name gets the graphemes of a file in this encoding.
-    Load { name: u32, enc: Encoding },
+    Load {
+        name: u32,
+        enc: Encoding,
+    },
     /// The name gets the graphemes of the code points that the line gives.
-    Text { name: u32 },
+    Text {
+        name: u32,
+    },
     /// The name gets at most `count` graphemes of `a` from place `start` on, counted from 0.
     Sub {
         name: u32,
@@ -16,11 +21,20 @@ pub enum Command {
         count: u64,
     },
     /// Prints how many graphemes `a` has.
-    Len { a: u32 },
+    Len {
+        a: u32,
+    },
     /// Prints the code points of each grapheme of `a`.
-    Show { a: u32 },
+    Show {
+        a: u32,
+    },
     /// Prints the pieces of `a`.
-    Shape { a: u32 },
+    Shape {
+        a: u32,
+    },
     /// Writes the bytes of `a` in this encoding.
-    Put { a: u32, enc: Encoding },
+    Put {
+        a: u32,
+        enc: Encoding,
+    },
 }

@@ -3,7 +3,10 @@
 
 mod command;
 mod error;
+mod names;
 mod script;
+mod word;
+mod words;
 
 pub use command::Command;
 pub use error::{Reason, ScriptError};
