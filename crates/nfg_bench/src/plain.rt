@@ -1,4 +1,6 @@
-//! Plain loops, element by element, each of which ends at the first that tells.
+//! Plain loops, element by element.
+
+use std::alloc::{AllocError, Global};
 
 pub fn ascii_run(bytes: &[u8]) -> usize {
     for at in 0..bytes.len() {
@@ -74,4 +76,17 @@ pub fn narrow_fits(a: &[i32]) -> bool {
         }
     }
     true
+}
+
+/// Each byte as a number of 32 bits, in a list of its own.
+pub fn widened(alloc: Global, bytes: &[u8]) -> Result<Vec<u32>, AllocError> {
+    let mut codes = vec![in alloc; 0u32; bytes.len()]?;
+    widen(bytes, codes.as_mut_slice());
+    Ok(codes)
+}
+
+fn widen(bytes: &[u8], codes: &mut [u32]) {
+    for at in 0..bytes.len().min(codes.len()) {
+        codes[at] = u32::from(bytes[at]);
+    }
 }

@@ -7,6 +7,7 @@ ghost use Rattle.nfg_decode.specs.Tail.{bytes_of};
 
 use crate::latin1::read_latin1;
 use crate::reach::Reach;
+use crate::step::{Step, next_step};
 use crate::tail::{Tail, fill_seam, tail_len, tail_of};
 use crate::utf8::read_utf8;
 use crate::utf16::{ByteOrder, read_utf16};
@@ -111,7 +112,8 @@ fn read_piece(form: Form, piece: &[u8], into: &mut CodeList) -> Result<Reading, 
 
 /// Reads a piece behind an unfinished sequence. At most four bytes are copied: those held and the
 /// first of the piece, until one sequence is whole.
-pub(crate) fn read_on(
+#[inline(never)]
+fn read_over(
     form: Form,
     tail: Tail,
     piece: &[u8],
@@ -143,4 +145,39 @@ pub(crate) fn read_on(
         tail: rest.tail,
         is_malformed: rest.is_malformed,
     })
+}
+
+/// Reads a piece behind an unfinished sequence. A single byte takes a short way, where it is one that
+/// the sequence waits for.
+pub(crate) fn read_on(
+    form: Form,
+    tail: Tail,
+    piece: &[u8],
+    into: &mut CodeList,
+) -> Result<Reading, AllocError>
+    ensures ok { IfOk result (λ reading. IsUnfinished (as_encoding form) (bytes_of tail)
+        → ReadsOn (as_encoding form) (bytes_of tail ++ piece.now) into.old into.new reading) }
+    ensures bound { IfOk result (λ reading. reading.settled + length (bytes_of reading.tail)
+        ≤ length (bytes_of tail) + length piece.now) }
+    ensures err { OnErr result (Grew into.old into.new) }
+{
+    let [byte] = piece else {
+        return read_over(form, tail, piece, into);
+    };
+    match next_step(form, tail, *byte) {
+        Step::Whole(code) => {
+            into.append(&[code])?;
+            Ok(Reading {
+                settled: tail_len(tail) + 1,
+                tail: Tail::Empty,
+                is_malformed: false,
+            })
+        }
+        Step::Held(tail) => Ok(Reading {
+            settled: 0,
+            tail,
+            is_malformed: false,
+        }),
+        Step::Other => read_over(form, tail, piece, into),
+    }
 }
