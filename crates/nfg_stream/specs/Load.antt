@@ -1,5 +1,5 @@
 -- Strings that are made from a text, and what a table's pass learns by it (this project's own).
-use Rattle.std.specs.Prelude.{◌≡◌, ⊥, ℕ, ◌<◌, Bool, nat_lt, List, [], ◌∷◌, ◌++◌, length, filter, position, Option, Some, None, Result, Ok, Err, ℤ}
+use Rattle.std.specs.Prelude.{◌≡◌, ℕ, ◌<◌, Bool, nat_lt, List, [], ◌∷◌, ◌++◌, length, filter, position, Option, Some, None, Result, Ok, Err, ℤ}
 use Rattle.nfg_text.specs.Graphemes.{graphemes_of, is_too_long}
 use Rattle.nfg_decode.specs.Decoded.{Decoded}
 use Rattle.nfg_syn.specs.Known.{Texts, IsSame, IsUnknown, MapsBesides}
