@@ -2,6 +2,7 @@
 #![tactic(auto)]
 
 mod error;
+mod numbering;
 mod whole;
 
 pub use error::LoadError;

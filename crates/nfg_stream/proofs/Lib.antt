@@ -1,0 +1,4 @@
+pub mod Learned
+pub mod Holding
+pub mod Numbered
+pub mod GraphemeTexts
