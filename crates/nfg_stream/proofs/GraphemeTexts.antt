@@ -1,5 +1,6 @@
 -- The graphemes of a text are texts, and none of them is empty.
 use Rattle.std.proofs.Common.{◌≡◌, ℕ, ◌<◌, Bool, true, false, if◌then◌else◌, List, [], ◌∷◌, ◌++◌, length, sym, ap, subst, ◌∙◌, arith, length-append}
+use Rattle.std.proofs.lemmas.Grind.{merely}
 use Rattle.std.specs.List.{concat}
 use Rattle.unicode_segmentation.specs.Grapheme.{is_grapheme_break}
 use Rattle.unicode_segmentation.specs.Segments.{Rule, cut, prepend}
@@ -7,7 +8,7 @@ use Rattle.nfg_text.specs.Graphemes.{graphemes_of}
 use Rattle.nfg_text.specs.Text.{IsText, text_of}
 use Rattle.nfg_text.proofs.Proved.{graphemes_spell_nfc, nfc_of_text, parts_of_text}
 use Rattle.nfg_segment.specs.Given.{Given, nothing, with_clusters}
-use Rattle.nfg_stream.specs.Numbering.{AreClusters, Holds}
+use Rattle.nfg_stream.specs.Numbering.{AreClusters, Holds, HoldsSome}
 use Rattle.nfg_stream.proofs.Holding.{Holds-given, with_clusters-append}
 
 AreSome : List (List ℕ) → Type 0
@@ -33,7 +34,7 @@ unfolding AreSome
 AreClusters-parts [] some text = tt
 AreClusters-parts (c ∷ cs) some text =
     let parts = (parts_of_text c (concat cs)).0 text in
-    (record { text = parts.0; some = some.0 }, AreClusters-parts cs some.1 parts.1)
+    ((parts.0, some.0), AreClusters-parts cs some.1 parts.1)
 
 pub AreClusters-graphemes : (t : List ℕ) → IsText t → AreClusters (graphemes_of t)
 AreClusters-graphemes t text =
@@ -53,3 +54,6 @@ Holds-finished none some all first last t text empty fed finished whole =
     Holds-graphemes all (first ++ last) t text
     (finished ∙ ap (λ g. with_clusters g last) (fed ∙ ap (λ g. with_clusters g first) empty) ∙ sym (with_clusters-append nothing first last))
     whole
+
+pub Holds-some : (given : Given) (cs : List (List ℕ)) → Holds given cs → HoldsSome given
+Holds-some given cs holds = merely (cs, holds)

@@ -1,5 +1,10 @@
 -- What a sink was given, and the clusters themselves.
 use Rattle.std.proofs.Common.{◌≡◌, ℕ, zero, suc, ◌+◌, ◌<◌, ◌≤◌, Bool, true, false, cond, nat_lt, List, [], ◌∷◌, ◌++◌, length, map, take, drop, get_or, Option, Some, None, refl, sym, ap, ap₂, subst, ◌∙◌, append-nil, append_assoc, arith, length-append, if◌then◌else◌}
+use mathlib.Core.HLevel.{×_prop, Unit-prop}
+use mathlib.Core.Logic.{∥∥₁_elim}
+use native.Mathlib.Bridge.{le_prop}
+use denote.Struct.Props.{≡_prop}
+use Rattle.std.specs.Coded.{coded_bool, coded_option, coded_ℕ}
 use Rattle.std.proofs.lemmas.List.{take_all}
 use Rattle.std.proofs.lemmas.Iterator.Adapters.{position_from-zero}
 use Rattle.std.proofs.lemmas.Bool.Decides.{nat_tests}
@@ -7,7 +12,7 @@ use Rattle.std.specs.List.{position_from, slice_index_or}
 use Rattle.nfg_text.specs.Graphemes.{is_too_long}
 use Rattle.nfg_segment.specs.Given.{Given, nothing, first_or, with_cluster, with_clusters}
 use Rattle.nfg_stream.specs.Load.{first_long}
-use Rattle.nfg_stream.specs.Numbering.{IsCluster, AreClusters, Holds}
+use Rattle.nfg_stream.specs.Numbering.{IsCluster, AreClusters, Holds, HoldsSome}
 
 -- the first long cluster, counted from i
 abbrev pub long_from : ℕ → List (List ℕ) → Option ℕ
@@ -92,3 +97,15 @@ split_at (c ∷ cs) (suc k) h = ap (λ l. c ∷ l) (split_at cs k (omega (arith,
 pub with_clusters-append : (g : Given) (a b : List (List ℕ)) → with_clusters g (a ++ b) ≡ with_clusters (with_clusters g a) b
 with_clusters-append g [] b = refl
 with_clusters-append g (c ∷ cs) b = with_clusters-append (with_cluster g c) cs b
+
+AreClusters-prop : (cs : List (List ℕ)) → IsProp (AreClusters cs)
+AreClusters-prop [] = Unit-prop
+AreClusters-prop (c ∷ cs) = ×_prop (×_prop (≡_prop coded_bool _ _) le_prop) (AreClusters-prop cs)
+
+-- where no cluster is long, a sink has clusters
+pub clusters-short : (given : Given) → HoldsSome given → given.first_long ≡ None → AreClusters given.heads
+clusters-short given some none =
+    ∥∥₁_elim some (AreClusters-prop given.heads) (λ x. subst AreClusters (sym (Holds-short given x.0 x.1 none)) x.1.are)
+
+pub heads-none : (given : Given) → HoldsSome given → given.first_long ≡ None → first_long given.heads ≡ None
+heads-none given some none = ∥∥₁_elim some (≡_prop (coded_option coded_ℕ) _ _) (λ x. subst (λ cs. first_long cs ≡ None) (sym (Holds-short given x.0 x.1 none)) (sym x.1.first_long ∙ none))

@@ -10,9 +10,8 @@ use Rattle.nfg_stream.specs.declared.error.LoadError.{LoadError}
 use Rattle.nfg_stream.specs.declared.error.LoadError.TheVariants.{Malformed, ClusterLong, RowFull, NoPortion, OutOfMemory}
 
 -- a text of at least one code point
-pub record IsCluster (cluster : List ℕ) : Type 0 where
-  pub text : IsText cluster
-  pub some : 0 < length cluster
+abbrev pub IsCluster : List ℕ → Type 0
+IsCluster cluster = IsText cluster × (0 < length cluster)
 
 -- each of them is one
 abbrev pub AreClusters : List (List ℕ) → Type 0
@@ -24,6 +23,10 @@ pub record Holds (given : Given) (clusters : List (List ℕ)) : Type 0 where
   pub heads : given.heads ≡ map (take 1024) clusters
   pub first_long : given.first_long ≡ first_long clusters
   pub are : AreClusters clusters
+
+-- or some clusters, whichever they are
+abbrev pub HoldsSome : Given → Type 0
+HoldsSome given = ∥ ((clusters : List (List ℕ)) × Holds given clusters) ∥₁
 
 -- the table has no number for the cluster, for a reason, and the pass has learned nothing
 pub record IsRefused (cluster : List ℕ) (old new : Texts) (Reason : Type 0) : Type 0 where

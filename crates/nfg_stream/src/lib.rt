@@ -3,7 +3,10 @@
 
 mod error;
 mod numbering;
+mod reader;
+mod stream;
 mod whole;
 
 pub use error::LoadError;
+pub use stream::DecodeStream;
 pub use whole::string_of;

@@ -3,7 +3,7 @@ ghost use Rattle.std.specs.Prelude.{◌≡◌, ◌<◌, ◌≤◌, List, ℕ, No
 ghost use Rattle.nfg_strand.specs.Pieces.{flat_piece};
 ghost use Rattle.nfg_syn.specs.Seen.{Keeps, SameCounts};
 ghost use Rattle.nfg_stream.specs.Load.{HasMade, first_long};
-ghost use Rattle.nfg_stream.specs.Numbering.{IsCluster, AreClusters, Holds, AreNumbered, HasNumber, HasPushed};
+ghost use Rattle.nfg_stream.specs.Numbering.{IsCluster, AreClusters, Holds, HoldsSome, AreNumbered, HasNumber, HasPushed};
 
 use crate::LoadError;
 use nfg_segment::Clusters;
@@ -21,7 +21,7 @@ pub(crate) fn string_from<T: Synthetics>(
     pass: &mut T::Pass,
     clusters: &Clusters,
 ) -> Result<NString, LoadError>
-    requires clusters { (all : List (List ℕ)) × Holds clusters.now all }
+    requires clusters { HoldsSome clusters.now }
     requires table { T.is_of table.now pass.old }
     ensures table { T.is_of table.now pass.new }
     ensures keeps { Keeps (T.seen pass.old) (T.seen pass.new) }

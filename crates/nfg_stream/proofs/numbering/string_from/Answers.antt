@@ -1,22 +1,15 @@
 use Rattle.std.proofs.Common.{◌≡◌, None, Ok, Err, sym, subst, ◌∙◌}
 use Rattle.nfg_stream.specs.Load.{HasMade, first_long}
 use Rattle.nfg_stream.specs.Numbering.{AreClusters, AreNumbered}
-use Rattle.nfg_stream.proofs.Holding.{Holds-short}
+use Rattle.nfg_stream.proofs.Holding.{Holds-short, clusters-short, heads-none}
 use Rattle.nfg_stream.proofs.Numbered.{made-answer}
 use Rattle.nfg_stream.proofs.numbering.string_from.Goals as goal
 
 pub numbers_of-requires-clause-clusters : goal.numbers_of-requires-clause-clusters
-numbers_of-requires-clause-clusters g c κs within =
-    let all = c.requires.clusters.0 in
-    let holds = c.requires.clusters.1 in
-    subst AreClusters (sym (Holds-short c.args.clusters.now all holds (sym c.first_long.ensures ∙ c.in_default.is))) holds.are
+numbers_of-requires-clause-clusters g c κs within = clusters-short c.args.clusters.now c.requires.clusters (sym c.first_long.ensures ∙ c.in_default.is)
 
 pub numbers_of-requires-clause-short : goal.numbers_of-requires-clause-short
-numbers_of-requires-clause-short g c κs within =
-    let all = c.requires.clusters.0 in
-    let holds = c.requires.clusters.1 in
-    let none = sym c.first_long.ensures ∙ c.in_default.is in
-    subst (λ cs. first_long cs ≡ None) (sym (Holds-short c.args.clusters.now all holds none)) (sym holds.first_long ∙ none)
+numbers_of-requires-clause-short g c κs within = heads-none c.args.clusters.now c.requires.clusters (sym c.first_long.ensures ∙ c.in_default.is)
 
 pub returns-in-Ok-clause-made : goal.returns-in-Ok-clause-made
 returns-in-Ok-clause-made g c all holds =
