@@ -1,7 +1,7 @@
 -- A cluster that goes on is one cluster, and what it ends can be told from it alone.
 use Rattle.std.proofs.Common.{◌≡◌, ℕ, Bool, true, false, List, [], ◌∷◌, ◌++◌, reverse, length, ◌≤◌, if◌then◌else◌, refl, sym, ap, ap₂, ◌∙◌, append_assoc, append-nil, arith}
-use Rattle.unicode_segmentation.specs.Grapheme.{is_grapheme_break}
-use Rattle.unicode_segmentation.specs.Segments.{cut}
+use Rattle.nfg_text.specs.Grapheme.{is_grapheme_break}
+use Rattle.nfg_text.specs.Segments.{cut}
 use Rattle.nfg_text.specs.Graphemes.{clusters}
 use Rattle.nfg_text.proofs.AtBreak.{clusters-nil, onto-reverse, reads_one_ahead}
 use Rattle.nfg_text.proofs.Cuts.{cut-cons, cut-nil, cut_some, put_first, put_first-nil, onto}

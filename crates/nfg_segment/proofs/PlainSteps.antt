@@ -3,12 +3,11 @@ use Rattle.std.proofs.Common.{◌≡◌, ℕ, zero, suc, ◌+◌, ◌<◌, true,
 use Rattle.std.proofs.lemmas.Bool.{and_parts, and_from}
 use Rattle.std.proofs.lemmas.List.{length-append, take_more, take_all}
 use Rattle.std.specs.List.{list_all}
-use Rattle.ucd_table.specs.Rows.{in_ranges}
-use Rattle.unicode_normalization.specs.Forms.{nfc}
+use Rattle.nfg_text.specs.Forms.{nfc}
 use Rattle.nfg_text.specs.Graphemes.{clusters, graphemes_of}
 use Rattle.nfg_text.specs.Plain.{is_plain, AllPlain, singles}
 use Rattle.nfg_text.proofs.AtBreak.{clusters-nil}
-use Rattle.nfg_text.proofs.Proved.{plain_runs_are_singles, plain_stands_apart, safe_starts_stay}
+use Rattle.nfg_text.proofs.Proved.{plain_runs_are_singles, plain_stands_apart, line_feed_is_not_plain, safe_starts_stay}
 use Rattle.nfg_segment.specs.Follows.{Follows, IsLone}
 use Rattle.nfg_segment.specs.Held.{Unfinished, Held, Keeps, is_some}
 use Rattle.nfg_segment.proofs.Keeping.{none-is_nil}
@@ -19,8 +18,7 @@ use Rattle.nfg_segment.proofs.TextLemmas.{take-part}
 
 -- a line feed is not plain
 plain_no_line : (c : ℕ) → is_plain c ≡ true → c ≡ 0xA → ⊥
-unfolding in_ranges
-plain_no_line c plain e = let clash = sym (ap is_plain e) ∙ plain in cc
+plain_no_line c plain e = let clash = sym line_feed_is_not_plain ∙ sym (ap is_plain e) ∙ plain in cc
 
 -- the first code points of a plain run are plain
 AllPlain-take : (n : ℕ) (t : List ℕ) → AllPlain t → AllPlain (take n t)

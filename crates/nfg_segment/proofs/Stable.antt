@@ -2,20 +2,16 @@
 use Rattle.std.proofs.Common.{◌≡◌, ℕ, ◌+◌, ◌≤◌, ◌<◌, Bool, true, false, not, ◌&&◌, ◌==◌, nat_lt, ◌⊎◌, inl, inr, List, [], ◌∷◌, ◌++◌, length, take, drop, refl, sym, ap, ap₂, subst, ◌∙◌, arith, append_assoc, append-nil, eq-eqb}
 use Rattle.std.proofs.lemmas.Bool.{and_parts, and_from, ltb-true}
 use Rattle.std.proofs.lemmas.List.{length-append, take-append-drop}
-use Rattle.std.specs.List.{flat_map}
-use Rattle.unicode_normalization.specs.Decompose.{decompose}
-use Rattle.unicode_normalization.specs.Forms.{nfc, Nfc, Nfd}
-use Rattle.unicode_normalization.proofs.FormsLemmas.{normalize-nil, nfd_from_nfc}
-use Rattle.nfg_text.proofs.Composing.{size-nfd, one_part}
+use Rattle.nfg_text.specs.Forms.{nfc}
 use Rattle.nfg_text.specs.Graphemes.{clusters, graphemes_of, starts_safely, is_yes, is_stable_pair, IsStableBetween, stable_len}
 use Rattle.nfg_text.proofs.AtBreak.{clusters-nil}
-use Rattle.nfg_text.proofs.Proved.{graphemes_at_stable, stable_len_is_greatest, ascii_stands_alone}
+use Rattle.nfg_text.proofs.Proved.{nfc-nil, nfc_is_some, graphemes_at_stable, stable_len_is_greatest, ascii_stands_alone}
 use Rattle.nfg_segment.specs.Follows.{StableAreOut}
 use Rattle.nfg_segment.specs.Held.{none_safe}
 use Rattle.nfg_segment.proofs.OneCluster.{clusters_some}
 
 pub graphemes-nil : graphemes_of [] ≡ []
-graphemes-nil = ap clusters (normalize-nil Nfc) ∙ clusters-nil
+graphemes-nil = ap clusters nfc-nil ∙ clusters-nil
 
 -- at a stable place the graphemes are those of both parts
 parts : (x y : List ℕ) → IsStableBetween x y → graphemes_of (x ++ y) ≡ graphemes_of x ++ graphemes_of y
@@ -27,15 +23,7 @@ pub graphemes_some : (c : ℕ) (cs : List ℕ) → 1 ≤ length (graphemes_of (c
 graphemes_some c cs = by (nfc (c ∷ cs)) refl
   where
     by : (form : List ℕ) → nfc (c ∷ cs) ≡ form → 1 ≤ length (clusters form)
-    by [] e =
-        absurd (omega (
-          arith,
-          ap length (nfd_from_nfc (c ∷ cs) [] (e ∙ sym (normalize-nil Nfc))),
-          ap length (normalize-nil Nfd),
-          size-nfd (c ∷ cs),
-          length-append (decompose Nfd c) (flat_map (decompose Nfd) cs),
-          one_part c,
-        ))
+    by [] e = absurd (nfc_is_some c cs e)
     by (x ∷ xs) e = clusters_some x xs
 
 -- where all graphemes have been given

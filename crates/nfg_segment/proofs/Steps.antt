@@ -1,8 +1,8 @@
 -- What a segmenter knows, step by step.
 use Rattle.std.proofs.Common.{◌≡◌, ℕ, Bool, true, false, List, [], ◌∷◌, ◌++◌, length, reverse, if◌then◌else◌, refl, sym, ap, ◌∙◌, arith, append_assoc, append-nil, inl, inr}
 use Rattle.std.proofs.lemmas.List.{length-append}
-use Rattle.unicode_segmentation.specs.Grapheme.{is_grapheme_break}
-use Rattle.unicode_normalization.specs.Forms.{nfc}
+use Rattle.nfg_text.specs.Grapheme.{is_grapheme_break}
+use Rattle.nfg_text.specs.Forms.{nfc}
 use Rattle.nfg_text.specs.Graphemes.{clusters, graphemes_of, starts_safely}
 use Rattle.nfg_text.proofs.AtBreak.{clusters-nil}
 use Rattle.nfg_text.proofs.Proved.{nfc_at_safe_start, safe_starts_stay, clusters_at_safe_start, graphemes_at_stable}

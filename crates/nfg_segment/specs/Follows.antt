@@ -1,6 +1,6 @@
 -- What a segmenter has given out of a text, and what it knows of the rest (this project's own).
 use Rattle.std.specs.Prelude.{◌≡◌, ℕ, ◌≤◌, List, [], ◌∷◌, ◌++◌, length, take}
-use Rattle.unicode_normalization.specs.Forms.{nfc}
+use Rattle.nfg_text.specs.Forms.{nfc}
 use Rattle.nfg_text.specs.Graphemes.{clusters, graphemes_of, stable_len, IsStableBetween}
 use Rattle.nfg_segment.specs.Given.{Given, with_clusters}
 use Rattle.nfg_segment.specs.Held.{Held, Keeps, as_list}

@@ -1,6 +1,6 @@
 -- What a segmenter holds of a text (this project's own).
 use Rattle.std.specs.Prelude.{◌≡◌, ℕ, Bool, true, false, not, ◌&&◌, List, [], ◌∷◌, ◌++◌, take, reverse, if◌then◌else◌}
-use Rattle.unicode_segmentation.specs.Grapheme.{is_grapheme_break}
+use Rattle.nfg_text.specs.Grapheme.{is_grapheme_break}
 use Rattle.nfg_text.specs.Breaks.{Remembers}
 use Rattle.nfg_text.specs.Graphemes.{is_too_long, starts_safely}
 use Rattle.nfg_text.specs.declared.breaks.Memory.{Memory}

@@ -1,7 +1,7 @@
 //! What a segmenter holds of a text.
 ghost use Rattle.std.specs.Prelude.{◌≡◌, ◌<◌, ◌≤◌, ℕ, true, false, List, [], ◌∷◌, ◌++◌, ◌+◌, take, drop, length, IfSome, IfOk, OnOk, MatchOption};
 ghost use Rattle.std.specs.List.{slice_index_or};
-ghost use Rattle.unicode_normalization.specs.Forms.{nfc};
+ghost use Rattle.nfg_text.specs.Forms.{nfc};
 ghost use Rattle.nfg_text.specs.Graphemes.{graphemes_of, starts_safely};
 ghost use Rattle.nfg_text.specs.Plain.{is_plain, AllPlain};
 ghost use Rattle.nfg_text.specs.Text.{IsText};
@@ -13,10 +13,10 @@ use crate::ClusterSink;
 use crate::draft::{Draft, to_char};
 use crate::open_cluster::OpenCluster;
 use crate::plain::{mixed_len, plain_len};
-use nfg_text::{Kind, is_plain, starts_safely};
+use nfg_text::{Kind, append_nfc, is_plain, starts_safely};
 use std::alloc::{AllocError, Global};
 use std::marker::Model;
-use unicode_normalization::slice::extend_nfc;
+
 
 /// The cluster at the end of what is composed, and the text behind it that is not composed yet.
 #[derive(Drop)]
@@ -94,7 +94,7 @@ impl Held {
             return Ok(());
         }
         self.composed.clear();
-        extend_nfc(&mut self.composed, self.tail.as_slice())?;
+        append_nfc(&mut self.composed, self.tail.as_slice())?;
         self.cluster.push_all(&self.composed, out)?;
         self.tail.clear();
         Ok(())

@@ -3,10 +3,9 @@ use Rattle.std.proofs.Common.{◌≡◌, true, false, [], ◌∷◌, Some, None,
 use Rattle.std.specs.declared.cmp.Ordering.TheVariants.{Less, Greater}
 use Rattle.unicode_normalization.proofs.Computing.{unicode_normalization}
 use Rattle.unicode_segmentation.proofs.Computing.{unicode_segmentation}
-use Rattle.ucd_table.specs.Rows.{in_ranges}
 use Rattle.nfg_text.specs.Graphemes.{clusters, graphemes_of, cluster_ends, starts_safely, stable_len}
 use Rattle.nfg_text.specs.Operations.{concatenation, repetition, part_of, first_place, last_place, text_order}
-use Rattle.nfg_text.specs.Plain.{is_plain}
+use Rattle.nfg_text.specs.Plain.{is_plain, is_ordinary}
 use Rattle.nfg_text.specs.Splice.{splice}
 use Rattle.nfg_text.specs.Text.{text_of, IsText}
 
@@ -82,11 +81,16 @@ unfolding unicode_normalization
 a_hidden_second_does_not = refl
 
 a_syllable_is_plain : is_plain 0xAC01 ≡ true
-unfolding in_ranges
+unfolding is_plain is_ordinary unicode_normalization unicode_segmentation
 a_syllable_is_plain = refl
 
+-- so is a dash
+a_dash_is_plain : is_plain 0x2014 ≡ true
+unfolding is_plain is_ordinary unicode_normalization unicode_segmentation
+a_dash_is_plain = refl
+
 a_mark_is_not_plain : is_plain 0x301 ≡ false
-unfolding in_ranges
+unfolding is_plain is_ordinary unicode_normalization unicode_segmentation
 a_mark_is_not_plain = refl
 
 -- ---- stable places

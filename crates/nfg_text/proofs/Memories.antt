@@ -6,6 +6,7 @@ use Rattle.ucd_derived.specs.declared.IndicConjunctBreak.{IndicConjunctBreak}
 use Rattle.ucd_derived.specs.declared.IndicConjunctBreak.TheVariants.{Linker, Extend}
 use Rattle.ucd_emoji.specs.Binary.{is_extended_pictographic}
 use Rattle.unicode_segmentation.specs.Grapheme.{break_by_pair, ends_in_linker, ends_in_pictograph, ends_in_half_flag, is_consonant, is_extend, is_zwj, is_regional, is_grapheme_break}
+use Rattle.nfg_text.specs.Graphemes.{starts_safely}
 use Rattle.nfg_text.specs.declared.breaks.Kind.{Kind}
 use Rattle.nfg_text.specs.declared.breaks.Memory.{Memory}
 use Rattle.nfg_text.specs.Breaks.{IsKindOf, Remembers, ends_in_emoji_joiner, is_linked_after, breaks_by_memory}
@@ -51,11 +52,11 @@ rule-last c before = refl
 -- ---- two texts of which one memory is true
 
 kind_of : ℕ → Kind
-kind_of c = record { class = grapheme_cluster_break c; conjunct = indic_conjunct_break c; is_pictograph = is_extended_pictographic c }
+kind_of c = record { class = grapheme_cluster_break c; conjunct = indic_conjunct_break c; is_pictograph = is_extended_pictographic c; starts_safely = starts_safely c }
 
 kind_of-IsKindOf : (c : ℕ) → IsKindOf (kind_of c) c
 unfolding kind_of
-kind_of-IsKindOf c = record { class = refl; conjunct = refl; pictograph = refl }
+kind_of-IsKindOf c = record { class = refl; conjunct = refl; pictograph = refl; safe = refl }
 
 memory_then : Memory → Kind → Memory
 memory_then m k =

@@ -9,8 +9,9 @@ pub use Rattle.nfg_text.proofs.ControlFacts.{controls_stand_alone}
 pub use Rattle.nfg_text.proofs.Equivalence.{clusters_spell_text, graphemes_spell_nfc, graphemes_decide_equivalence, clusters_of_utf8}
 pub use Rattle.nfg_text.proofs.KeptFacts.{composites_keep_breaks}
 pub use Rattle.nfg_text.proofs.Memories.{memories_cut_alike}
+pub use Rattle.nfg_text.proofs.NotEmpty.{nfc-nil, nfc_is_some}
 pub use Rattle.nfg_text.proofs.Parts.{clusters_of_parts, parts_are_in_nfg}
-pub use Rattle.nfg_text.proofs.PlainFacts.{plain_stands_apart}
+pub use Rattle.nfg_text.proofs.PlainFacts.{plain_stands_apart, line_feed_is_not_plain}
 pub use Rattle.nfg_text.proofs.PlainRuns.{plain_pairs_break, graphemes_at_plain, plain_runs_are_singles}
 pub use Rattle.nfg_text.proofs.SafeStart.{nfc_at_safe_start, safe_starts_stay, clusters_at_safe_start, graphemes_at_safe_start, safe_starts_decide}
 pub use Rattle.nfg_text.proofs.ScalarFacts.{nfc_of_text, parts_of_text}

@@ -6,21 +6,17 @@ use Rattle.ucd_derived.specs.IndicConjunctBreak.{indic_conjunct_break}
 use Rattle.ucd_derived.specs.declared.IndicConjunctBreak.{IndicConjunctBreak}
 use Rattle.ucd_derived.specs.declared.IndicConjunctBreak.TheVariants.{Linker, Extend}
 use Rattle.ucd_emoji.specs.Binary.{is_extended_pictographic}
-use Rattle.ucd_table.specs.Rows.{Range}
 use Rattle.unicode_segmentation.specs.Grapheme.{break_by_pair, ends_in_linker, ends_in_pictograph, ends_in_half_flag, is_consonant, is_zwj, is_regional}
+use Rattle.nfg_text.specs.Graphemes.{starts_safely}
 use Rattle.nfg_text.specs.declared.breaks.Kind.{Kind}
 use Rattle.nfg_text.specs.declared.breaks.Memory.{Memory}
 
--- all Extended_Pictographic code points lie in these ranges
-abbrev pub pictograph_blocks : List Range
-pictograph_blocks =
-    (0xA9, 0xAE) ∷ (0x203C, 0x2B55) ∷ (0x3030, 0x303D) ∷ (0x3297, 0x3299) ∷ (0x1F000, 0x1FFFF) ∷ []
-
--- the kind holds the three properties of the code point that the rules read
+-- the kind holds the three properties of the code point that the rules read, and whether it starts safely
 pub record IsKindOf (kind : Kind) (c : ℕ) : Type 0 where
   pub class : kind.class ≡ grapheme_cluster_break c
   pub conjunct : kind.conjunct ≡ indic_conjunct_break c
   pub pictograph : kind.is_pictograph ≡ is_extended_pictographic c
+  pub safe : kind.starts_safely ≡ starts_safely c
 
 -- the break class is that of the last code point, where there is one; `before` is given from its end
 abbrev pub IsClassOfLast : GraphemeClusterBreak → List ℕ → Type 0

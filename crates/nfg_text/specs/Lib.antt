@@ -4,5 +4,9 @@ pub mod Graphemes
 pub mod Laws
 pub mod Operations
 pub mod Plain
+pub mod Properties
 pub mod Splice
 pub mod Text
+pub use Rattle.unicode_normalization.specs.Forms
+pub use Rattle.unicode_segmentation.specs.Grapheme
+pub use Rattle.unicode_segmentation.specs.Segments

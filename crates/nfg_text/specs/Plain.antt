@@ -1,27 +1,15 @@
--- Plain code points: those of a few common scripts that stand apart from their neighbors (this project's own).
-use Rattle.std.specs.Prelude.{◌≡◌, ℕ, Bool, true, false, List, [], ◌∷◌}
+-- Plain code points: those that stand apart from each other (this project's own).
+use Rattle.std.specs.Prelude.{◌≡◌, ℕ, Bool, true, false, not, ◌&&◌, nat_lt, List, [], ◌∷◌}
 use Rattle.std.specs.List.{list_all}
 use Rattle.ucd_breaks.specs.GraphemeClusterBreak.{grapheme_cluster_break}
 use Rattle.ucd_breaks.specs.declared.GraphemeClusterBreak.{GraphemeClusterBreak}
 use Rattle.ucd_breaks.specs.declared.GraphemeClusterBreak.TheVariants.{Other, Lv, Lvt}
 use Rattle.ucd_derived.specs.IndicConjunctBreak.{indic_conjunct_break}
+use Rattle.ucd_derived.specs.declared.IndicConjunctBreak.{IndicConjunctBreak}
+use Rattle.ucd_derived.specs.declared.IndicConjunctBreak.TheVariants.{None}
 use Rattle.ucd_emoji.specs.Binary.{is_extended_pictographic}
-use Rattle.ucd_table.specs.Rows.{Range, in_ranges}
 use Rattle.unicode_segmentation.specs.Grapheme.{is_consonant}
 use Rattle.nfg_text.specs.Graphemes.{starts_safely}
-
--- further Latin, Greek, Cyrillic, Hiragana, Han, Hangul syllables
-abbrev pub further_ranges : List Range
-further_ranges =
-    (0xC0, 0x2FF) ∷ (0x3A3, 0x3E1) ∷ (0x400, 0x482) ∷ (0x3041, 0x3096) ∷ (0x4E00, 0x9FFF) ∷ (0xAC00, 0xD7A3) ∷ []
-
--- what can be seen of ASCII, and these
-abbrev pub plain_ranges : List Range
-plain_ranges = (0x20, 0x7E) ∷ further_ranges
-
--- the code point lies in one of these ranges
-abbrev pub is_plain : ℕ → Bool
-is_plain c = in_ranges plain_ranges c
 
 -- the break class of a code point between two of which the rules on neighbors say nothing
 abbrev pub stands_apart : GraphemeClusterBreak → Bool
@@ -29,6 +17,21 @@ stands_apart Other = true
 stands_apart Lv = true
 stands_apart Lvt = true
 stands_apart _ = false
+
+-- the code point takes no part in conjuncts
+abbrev pub is_none : IndicConjunctBreak → Bool
+is_none None = true
+is_none _ = false
+
+-- the rules hold no two code points of this kind together, whatever stands before them
+unfoldable pub is_ordinary : ℕ → Bool
+is_ordinary c =
+    stands_apart (grapheme_cluster_break c)
+    && (is_none (indic_conjunct_break c) && not (is_extended_pictographic c))
+
+-- such a code point that starts safely
+unfoldable pub is_plain : ℕ → Bool
+is_plain c = nat_lt c 0x11_0000 && (starts_safely c && is_ordinary c)
 
 -- what the laws of plain code points rest on
 pub record StandsApart (c : ℕ) : Type 0 where

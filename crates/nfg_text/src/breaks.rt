@@ -1,69 +1,50 @@
 //! Boundaries of extended grapheme clusters, found from a memory of a few fields (UAX #29).
 ghost use Rattle.std.specs.Prelude.{◌≡◌, ◌<◌, ℕ, true, List, [], ◌∷◌, ◌++◌, length, if◌then◌else◌, IfOk, OnOk};
 ghost use Rattle.unicode_segmentation.specs.Grapheme.{break_by_pair, is_consonant, is_extend, is_zwj, is_regional, is_grapheme_break};
-ghost use Rattle.ucd_emoji.specs.Binary.{is_extended_pictographic};
-ghost use Rattle.ucd_table.specs.Rows.{in_ranges};
-ghost use Rattle.nfg_text.specs.Breaks.{IsKindOf, Remembers, is_linked_after, breaks_by_memory, pictograph_blocks};
-ghost use Rattle.nfg_text.specs.Graphemes.{cluster_ends};
+ghost use Rattle.nfg_text.specs.Breaks.{IsKindOf, Remembers, is_linked_after, breaks_by_memory};
+ghost use Rattle.nfg_text.specs.Graphemes.{cluster_ends, starts_safely};
 ghost use Rattle.nfg_text.specs.Text.{IsText};
 
 use crate::EndList;
-use crate::normal::{is_within, to_char};
+use crate::normal::to_char;
+use crate::properties::{class_of, conjunct_of, properties_of};
 use std::alloc::{AllocError, Global};
 use ucd_breaks::GraphemeClusterBreak;
 use ucd_breaks::GraphemeClusterBreak::*;
 use ucd_derived::IndicConjunctBreak;
-use ucd_emoji::is_extended_pictographic;
 
-/// What the rules read of a code point.
+/// What the rules read of a code point, and whether it starts safely.
 #[derive(Clone, Copy)]
 pub struct Kind {
     class: GraphemeClusterBreak,
     conjunct: IndicConjunctBreak,
     is_pictograph: bool,
+    starts_safely: bool,
 }
 
 impl Kind {
-    /// The kind of a code point: its Grapheme_Cluster_Break, its Indic_Conjunct_Break, and whether it is
-    /// Extended_Pictographic.
+    /// The kind of a code point: its Grapheme_Cluster_Break, its Indic_Conjunct_Break, whether it is
+    /// Extended_Pictographic, and whether it starts safely.
     #[inline]
     pub fn of(c: char) -> Kind
         ensures { IsKindOf result c }
     {
-        // nothing is looked up for what can be seen of ASCII
-        if is_within(c as u32, 0x20, 0x7E) {
-            Kind {
-                class: Other,
-                conjunct: IndicConjunctBreak::None,
-                is_pictograph: false,
-            }
-        } else {
-            Kind {
-                class: GraphemeClusterBreak::for_char(c),
-                conjunct: IndicConjunctBreak::for_char(c),
-                is_pictograph: is_pictograph(c),
-            }
+        let number = properties_of(c as u32);
+        Kind {
+            class: class_of(number % 16),
+            conjunct: conjunct_of(number / 16 % 4),
+            is_pictograph: number / 64 % 2 == 1,
+            starts_safely: number < 128,
         }
     }
-}
 
-/// Whether the code point is Extended_Pictographic. Most text lies outside of the blocks that hold such code points,
-/// and is spared the search.
-#[inline]
-fn is_pictograph(c: char) -> bool
-    ensures { result ≡ is_extended_pictographic c }
-{
-    is_in_pictograph_block(c as u32) && is_extended_pictographic(c)
-}
-
-#[inline]
-fn is_in_pictograph_block(c: u32) -> bool
-    ensures { result ≡ in_ranges pictograph_blocks c }
-{
-    is_within(c, 0xA9, 0xAE)
-        | (is_within(c, 0x203C, 0x2B55)
-            | (is_within(c, 0x3030, 0x303D)
-                | (is_within(c, 0x3297, 0x3299) | is_within(c, 0x1F000, 0x1FFFF))))
+    /// Whether the code point starts safely.
+    #[inline]
+    pub fn starts_safely(self) -> bool
+        ensures { (c : ℕ) → IsKindOf self c → result ≡ starts_safely c }
+    {
+        self.starts_safely
+    }
 }
 
 /// What the rules need to know of the text before a place.

@@ -3,11 +3,13 @@
 
 pub use breaks::{Kind, Memory, cluster_ends};
 pub use list::{ByteList, CodeList, EndList};
-pub use normal::{is_plain, is_text, nfc_of, starts_safely};
+pub use normal::{append_nfc, compose_pair, is_plain, is_text, nfc_of, starts_safely};
 
 mod breaks;
 pub mod laws;
 mod list;
 mod normal;
+mod properties;
+mod property_table;
 #[cfg(test)]
 mod tests;

@@ -1,16 +1,17 @@
 //! The normal form of a text.
-ghost use Rattle.std.specs.Prelude.{◌≡◌, ◌↔◌, ◌≤◌, true, ◌&&◌, ◌++◌, nat_le, length, take, drop, IsTrue, IfOk, OnOk};
+ghost use Rattle.std.specs.Prelude.{◌≡◌, ◌↔◌, ◌≤◌, ℕ, true, List, ◌∷◌, ◌++◌, length, take, drop, IsTrue, IfSome, IfOk, OnOk, OnErr};
 ghost use Rattle.std.specs.Char.{IsScalar};
 ghost use Rattle.std.specs.List.{list_all};
+ghost use Rattle.unicode_normalization.specs.Compose.{primary_composite};
 ghost use Rattle.unicode_normalization.specs.Forms.{nfc};
 ghost use Rattle.nfg_text.specs.Graphemes.{starts_safely};
-ghost use Rattle.nfg_text.specs.Plain.{is_plain, further_ranges};
-ghost use Rattle.ucd_table.specs.Rows.{in_ranges};
+ghost use Rattle.nfg_text.specs.Plain.{is_plain};
 ghost use Rattle.nfg_text.specs.Text.{IsText};
 
 use crate::CodeList;
+use crate::properties::{is_plain_number, properties_of};
 use std::alloc::{AllocError, Global};
-use ucd_normal::{Form, QuickCheck, class_and_quick_check};
+use unicode_normalization::char::compose;
 use unicode_normalization::slice::extend_nfc;
 
 /// Whether every number is a Unicode scalar value.
@@ -32,35 +33,16 @@ pub fn starts_safely(c: u32) -> bool
     requires { IsScalar c }
     ensures { result ≡ starts_safely c }
 {
-    let (class, answer) = class_and_quick_check(to_char(c), Form::Nfc);
-    class == 0 && answer == QuickCheck::Yes
+    properties_of(c) < 128
 }
 
-/// Whether the code point lies in one of seven ranges of common scripts, between two members of which a text is
-/// always settled.
+/// Whether the code point is plain: it starts safely, and no rule holds two such code points together. Between two of
+/// them a text is always settled.
 #[inline]
 pub fn is_plain(c: u32) -> bool
     ensures { result ≡ is_plain c }
 {
-    is_within(c, 0x20, 0x7E) || is_further_plain(c)
-}
-
-#[inline]
-fn is_further_plain(c: u32) -> bool
-    ensures { result ≡ in_ranges further_ranges c }
-{
-    is_within(c, 0xC0, 0x2FF)
-        | (is_within(c, 0x3A3, 0x3E1)
-            | (is_within(c, 0x400, 0x482)
-                | (is_within(c, 0x3041, 0x3096)
-                    | (is_within(c, 0x4E00, 0x9FFF) | is_within(c, 0xAC00, 0xD7A3)))))
-}
-
-#[inline]
-pub(crate) fn is_within(c: u32, low: u32, high: u32) -> bool
-    ensures { result ≡ (nat_le low c && nat_le c high) }
-{
-    (low <= c) & (c <= high)
+    c < 0x11_0000 && is_plain_number(properties_of(c))
 }
 
 /// The text in Normalization Form C (UAX #15). What comes before the first code point that may compose or move is
@@ -118,6 +100,25 @@ fn extend_composed(alloc: Global, codes: &mut Vec<u32>, t: &[u32]) -> Result<(),
     let mut composed = Vec::with_capacity(alloc, t.len())?;
     extend_nfc(&mut composed, &chars)?;
     extend_codes(codes, &composed)
+}
+
+/// Adds the NFC of a text at the end.
+#[inline]
+pub fn append_nfc(into: &mut Vec<char>, text: &[char]) -> Result<(), AllocError>
+    ensures appended { OnOk result (into.new.items ≡ into.old.items ++ nfc text.now) }
+    ensures unchanged { OnErr result (into.new.items ≡ into.old.items) }
+{
+    extend_nfc(into, text)
+}
+
+/// The code point that two neighbors compose to, where they do, which may stand in their place at the front of a
+/// text.
+#[inline]
+pub fn compose_pair(first: char, second: char) -> Option<char>
+    ensures composite { result ≡ primary_composite first second }
+    ensures in_place { IfSome result (λ c. (rest : List ℕ) → nfc (c ∷ rest) ≡ nfc (first ∷ second ∷ rest)) }
+{
+    compose(first, second)
 }
 
 #[inline]

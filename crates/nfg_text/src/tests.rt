@@ -1,5 +1,8 @@
 //! What no clause says: rows from outside, and that each call succeeds with ample memory.
-use crate::{ByteList, CodeList, EndList, cluster_ends, is_text, nfc_of, starts_safely};
+use crate::{
+    ByteList, CodeList, EndList, append_nfc, cluster_ends, compose_pair, is_plain, is_text, nfc_of,
+    starts_safely,
+};
 use std::alloc::Global;
 use std::process::Abort;
 use std::test::Fail;
@@ -52,6 +55,36 @@ const ROWS: [Row; 14] = [
 fn texts_are_composed_and_cut(rt: HostRuntime) -> Result<(), Fail> {
     for (text, form, ends) in ROWS {
         check_row(&rt, rt.alloc(), text, form, ends)?;
+    }
+    Ok(())
+}
+
+#[test]
+fn texts_are_composed_in_pieces(rt: HostRuntime) -> Result<(), Fail> {
+    let mut composed = Vec::new(rt.alloc());
+    append_nfc(&mut composed, &['q', '\u{307}', '\u{323}'])?;
+    append_nfc(&mut composed, &['e', '\u{301}'])?;
+    assert_eq!(rt;
+        composed.as_slice(),
+        ['q', '\u{323}', '\u{307}', '\u{E9}'].as_slice()
+    );
+    assert_eq!(rt; compose_pair('\u{1100}', '\u{1161}'), Some('\u{AC00}'));
+    assert_eq!(rt; compose_pair('q', '\u{301}'), None);
+    Ok(())
+}
+
+/// French, Chinese and Japanese punctuation, and code points of other scripts.
+const PLAIN: [u32; 10] = [
+    0x20, 0xA0, 0xAB, 0x2014, 0x2019, 0x3001, 0x30AB, 0xFF0C, 0x5D0, 0xAC01,
+];
+
+#[test]
+fn punctuation_is_plain(rt: HostRuntime) -> Result<(), Fail> {
+    for c in PLAIN {
+        assert!(rt; is_plain(c));
+    }
+    for c in [0xA, 0xA9, 0x301, 0x915, 0x1100, 0x2194, 0x1F600, 0x110000] {
+        assert!(rt; !is_plain(c));
     }
     Ok(())
 }

@@ -1,11 +1,11 @@
-use Rattle.std.proofs.Common.{sym, ◌∙◌}
-use Rattle.nfg_text.proofs.PlainTest.{plain_in_ascii, plain_elsewhere}
+use Rattle.std.proofs.Common.{sym, ap, ◌∙◌, lt-ltb, le-ltb}
+use Rattle.nfg_text.specs.Properties.{is_plain_number}
+use Rattle.nfg_text.proofs.PropertyParts.{is_plain-below, is_plain-above}
 use Rattle.nfg_text.proofs.normal.is_plain.Goals as goal
 
-pub returns-then-is_within : goal.returns-then-is_within
-returns-then-is_within c =
-    let inside = c.if-is_within.true in inside ∙ sym (plain_in_ascii c.args.c (sym c.is_within.ensures ∙ inside))
+pub returns-then-c-lt1114112 : goal.returns-then-c-lt1114112
+returns-then-c-lt1114112 c =
+    c.is_plain_number.ensures ∙ ap is_plain_number c.properties_of.ensures ∙ sym (is_plain-below c.args.c (lt-ltb c.args.c 0x11_0000 c.if-c-lt1114112.true))
 
-pub returns-else-is_within : goal.returns-else-is_within
-returns-else-is_within c =
-    c.is_further_plain.ensures ∙ sym (plain_elsewhere c.args.c (sym c.is_within.ensures ∙ c.if-is_within.false))
+pub returns-else-c-lt1114112 : goal.returns-else-c-lt1114112
+returns-else-c-lt1114112 c = let high = le-ltb c.args.c 0x11_0000 c.if-c-lt1114112.false in high ∙ sym (is_plain-above c.args.c high)

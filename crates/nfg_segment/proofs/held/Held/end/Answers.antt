@@ -1,5 +1,5 @@
 use Rattle.std.proofs.Common.{◌∙◌, ◌++◌, ap, sym, subst}
-use Rattle.unicode_normalization.specs.Forms.{nfc}
+use Rattle.nfg_text.specs.Forms.{nfc}
 use Rattle.nfg_segment.specs.Given.{with_clusters}
 use Rattle.nfg_segment.specs.Held.{Keeps, next_all, closed_all, as_list}
 use Rattle.nfg_segment.proofs.Machine.{with_clusters-append}

@@ -1,5 +1,5 @@
 use Rattle.std.proofs.Common.{◌∙◌, ap, sym, subst, append-nil}
-use Rattle.unicode_normalization.specs.Forms.{nfc}
+use Rattle.nfg_text.specs.Forms.{nfc}
 use Rattle.nfg_text.proofs.Proved.{safe_starts_stay}
 use Rattle.nfg_segment.specs.Given.{with_clusters}
 use Rattle.nfg_segment.specs.Held.{Keeps, next_all, closed, closed_all}
