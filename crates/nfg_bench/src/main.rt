@@ -4,8 +4,12 @@
 use std::{env, io};
 
 mod blocks;
+mod decode;
 mod lanes;
+mod pipeline;
 mod plain;
+mod strand;
+mod texts;
 mod timing;
 
 // The first word after the program's name says what to time; with none, nothing is.
@@ -16,8 +20,10 @@ fn main(rt: HostRuntime) -> io::Result<()> {
         Some(word) => match word.as_str() {
             "lanes" => lanes::report(&rt, rt.alloc()),
             "blocks" => blocks::report(&rt, rt.alloc()),
+            "decode" => decode::report(&rt, rt.alloc()),
+            "strand" => strand::report(&rt, rt.alloc()),
             _ => println!(rt; "No such subject: {word}"),
         },
-        None => println!(rt; "Name what to time: lanes, blocks"),
+        None => println!(rt; "Name what to time: lanes, blocks, decode, strand"),
     }
 }

@@ -1,10 +1,15 @@
 //! Medians of repeated timings, and the line that is printed of them.
+ghost use Rattle.std.specs.Prelude.{◌<◌, ◌≤◌};
+
 use std::io;
 use std::rt::Clock;
 use std::time::Instant;
 
 /// How often each way is timed.
 const RUNS: usize = 401;
+
+/// And where one run takes milliseconds.
+const FEW_RUNS: usize = 9;
 
 /// The medians of two ways to do the same work, in nanoseconds, and how much they answered in all,
 /// which keeps the compiler from leaving work out.
@@ -31,11 +36,14 @@ pub trait Comparison {
 }
 
 /// Times both ways in turn, so that they share what else the machine does.
-fn in_turn<C: Comparison>(clock: &impl Clock, work: &C) -> io::Result<Timings> {
+fn in_turn<C: Comparison>(clock: &impl Clock, work: &C, runs: usize) -> io::Result<Timings>
+    requires some { 0 < runs }
+    requires at_most { runs ≤ 401 }
+{
     let mut fast_times = [0; RUNS];
     let mut plain_times = [0; RUNS];
     let mut answered: usize = 0;
-    for run in 0..RUNS {
+    for run in 0..runs {
         let start = Instant::now(clock)?;
         let answer = work.fast(run);
         fast_times[run] = nanoseconds(clock, start)?;
@@ -44,11 +52,11 @@ fn in_turn<C: Comparison>(clock: &impl Clock, work: &C) -> io::Result<Timings> {
         plain_times[run] = nanoseconds(clock, start)?;
         answered = answered.wrapping_add(answer).wrapping_add(other);
     }
-    fast_times.sort_unstable();
-    plain_times.sort_unstable();
+    fast_times[..runs].sort_unstable();
+    plain_times[..runs].sort_unstable();
     Ok(Timings {
-        fast: fast_times[RUNS / 2],
-        plain: plain_times[RUNS / 2],
+        fast: fast_times[runs / 2],
+        plain: plain_times[runs / 2],
         answered,
     })
 }
@@ -76,5 +84,15 @@ pub fn compare<C: Comparison>(
     elements: usize,
     work: &C,
 ) -> io::Result<()> {
-    print_row(rt, name, elements, in_turn(rt, work)?)
+    print_row(rt, name, elements, in_turn(rt, work, RUNS)?)
+}
+
+/// The same by few runs, for work that takes long.
+pub fn compare_few<C: Comparison>(
+    rt: &(impl Print + Clock),
+    name: &str,
+    elements: usize,
+    work: &C,
+) -> io::Result<()> {
+    print_row(rt, name, elements, in_turn(rt, work, FEW_RUNS)?)
 }

@@ -5,6 +5,7 @@ pub mod PrefixLemmas
 pub mod ReadingLemmas
 pub mod ReadsLemmas
 pub mod StateLemmas
+pub mod StepLemmas
 pub mod Stepwise
 pub mod StreamLemmas
 pub mod Utf16Laws

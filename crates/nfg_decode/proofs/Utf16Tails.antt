@@ -1,5 +1,5 @@
 -- Where UTF-16 breaks off: what more bytes can mend, and what they cannot.
-use Rattle.std.proofs.Common.{◌≡◌, ℕ, ◌+◌, ◌*◌, ◌<◌, ◌≤◌, ◌⊎◌, inl, inr, Bool, true, false, not, ◌&&◌, List, [], ◌∷◌, ◌++◌, length, get_or, take, drop, refl, sym, ap, ◌∙◌, arith, le-leb, leb-true, leb-false, lt-ltb, le-ltb, ltb-true}
+use Rattle.std.proofs.Common.{◌≡◌, ℕ, ◌+◌, ◌*◌, ◌<◌, ◌≤◌, ◌⊎◌, inl, inr, Bool, true, false, not, ◌&&◌, List, [], ◌∷◌, ◌++◌, length, get_or, take, drop, refl, sym, ap, subst, ◌∙◌, arith, le-leb, leb-true, leb-false, lt-ltb, le-ltb, ltb-true}
 use Rattle.std.proofs.lemmas.Bool.{cases_Bool, and_parts, and_cases, and_left, and_right, or_parts, or_cases, or_from, or_right, cases_lt, not-true, not-false, lt-leb, true≢false}
 use Rattle.std.proofs.lemmas.List.{get_or-drop}
 use Rattle.std.specs.Prelude.{Ok, Err, MatchBool}
@@ -184,3 +184,35 @@ units_read o bytes old new at b small a e = record {
   added = a.added;
   behind = open_or_not o (drop at bytes) b (λ i. rw get_or-drop (small (at + i))) a.none e;
 }
+
+-- ---- bytes of one sequence, or that end inside one
+
+module _ (o : ByteOrder) (x y u : ℕ) (is : u ≡ unit o x y) where
+  pub unit_whole : is_surrogate u ≡ false → decode (utf16_form o) (x ∷ y ∷ []) ≡ Ok (u ∷ [])
+  unit_whole s =
+      decode-utf16_form o (x ∷ y ∷ [])
+      ∙ one_unit o x y (subst (λ v. is_surrogate v ≡ false) is s)
+      ∙ ap (λ v. Ok (v ∷ [])) (sym is)
+
+  pub cut_pair : is_surrogate u ≡ true → is_low_surrogate u ≡ false → IsUnfinished (utf16_form o) (x ∷ y ∷ [])
+  cut_pair s l =
+      let first = subst (λ v. is_surrogate v ≡ true) is s in
+      after_high o x y (unpaired_alone o x y first) (high_from (unit o x y) first (subst (λ v. is_low_surrogate v ≡ false) is l))
+
+  pub cut_unit : (z : ℕ) → z < 256 → is_surrogate u ≡ true → is_low_surrogate u ≡ false → may_be_low o z ≡ true → IsUnfinished (utf16_form o) (x ∷ y ∷ z ∷ [])
+  cut_unit z b s l m =
+      let first = subst (λ v. is_surrogate v ≡ true) is s in
+      after_three o x y z b (unpaired_odd o x y z first) (high_from (unit o x y) first (subst (λ v. is_low_surrogate v ≡ false) is l)) m
+
+  pub pair_whole : (z w v c : ℕ) → v ≡ unit o z w → (is_high_surrogate u && is_low_surrogate v) ≡ true → c ≡ surrogate_pair_char u v
+      → decode (utf16_form o) (x ∷ y ∷ z ∷ w ∷ []) ≡ Ok (c ∷ [])
+  pair_whole z w v c second p code =
+      let parts = and_parts (is_high_surrogate u) (is_low_surrogate v) p in
+      decode-utf16_form o (x ∷ y ∷ z ∷ w ∷ [])
+      ∙ one_pair o x y z w (subst (λ n. is_high_surrogate n ≡ true) is parts.0) (subst (λ n. is_low_surrogate n ≡ true) second parts.1)
+      ∙ ap (λ n. Ok (n ∷ [])) (λ i. surrogate_pair_char (sym is i) (sym second i))
+      ∙ ap (λ n. Ok (n ∷ [])) (sym code)
+
+pub cut_byte : (o : ByteOrder) (x : ℕ) → x < 256 → is_surely_low o x ≡ false → IsUnfinished (utf16_form o) (x ∷ [])
+unfolding decode_utf16
+cut_byte o x b h = after_one o x b refl h

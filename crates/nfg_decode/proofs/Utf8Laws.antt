@@ -55,7 +55,7 @@ valid_up_to_it bs short = record {
 text_of : (bs : List ℕ) → utf8_valid_len bs ≡ length bs → IsUtf8 bs
 text_of bs whole = subst IsUtf8 (ap (λ n. take n bs) whole ∙ take_all (length bs) bs (omega arith)) (valid_front bs)
 
-chars_of_one : (c : ℕ) → scalar c ≡ true → chars (encode c) ≡ c ∷ []
+pub chars_of_one : (c : ℕ) → scalar c ≡ true → chars (encode c) ≡ c ∷ []
 chars_of_one c s = ap chars (sym (append-nil (encode c))) ∙ chars-encodes (c ∷ []) (rw s refl)
 
 -- behind a text the count goes on

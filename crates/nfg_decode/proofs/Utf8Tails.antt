@@ -1,5 +1,5 @@
 -- Where UTF-8 breaks off: what more bytes can mend, and what they cannot.
-use Rattle.std.proofs.Common.{◌≡◌, ℕ, suc, ◌+◌, ◌-◌, ◌<◌, ◌≤◌, ◌⊎◌, inl, inr, Bool, true, false, cond, List, [], ◌∷◌, ◌++◌, length, take, refl, sym, ap, ◌∙◌, subst, arith, le-leb, leb-true, le-ltb, ne_eqb, length-append, length-take, IsUtf8}
+use Rattle.std.proofs.Common.{◌≡◌, ℕ, zero, suc, ◌+◌, ◌-◌, ◌<◌, ◌≤◌, ◌⊎◌, inl, inr, Bool, true, false, cond, List, [], ◌∷◌, ◌++◌, length, take, refl, sym, ap, ◌∙◌, subst, arith, le-leb, leb-true, le-ltb, ne_eqb, length-append, length-take, IsUtf8}
 use Rattle.std.proofs.lemmas.Bool.{cases_lt, cond_both, and_parts}
 use Rattle.std.proofs.lemmas.List.{take-append-le}
 use Rattle.std.proofs.Math.Seq.{take-append-add}
@@ -38,10 +38,10 @@ refused r some none = elim (cases_lt 0 (utf8_valid_len r)) [
 
 -- ---- one character, by the steps from byte to byte
 
-abbrev Follows : ℕ → ℕ → Type 0
+abbrev pub Follows : ℕ → ℕ → Type 0
 Follows a b = (least_after a ≤ b) × (b ≤ most_after a)
 
-abbrev Leads : ℕ → Type 0
+abbrev pub Leads : ℕ → Type 0
 Leads a = (0xC2 ≤ a) × (a ≤ 0xF4)
 
 closed_0 : IsClosed 0 0 0
@@ -265,3 +265,33 @@ no_error_len_mends (a ∷ b ∷ d ∷ c ∷ r) e n =
     let h = guard (is_in_range (second_byte_min a) (second_byte_max a) b) _ 1 g.1 in
     let j = guard (is_in_range 0x80 0xBF d) _ 2 h.1 in
     cc
+
+-- ---- bytes that begin a character and end inside it
+
+module _ (a b d : ℕ) where
+  no_one : 0xC2 ≤ a → NoText (a ∷ [])
+  no_one l zero s w u = omega arith
+  no_one l (suc zero) s w u = let closed = ((StepsThen-IsUtf8 (a ∷ [])).1 u).1 in omega arith
+  no_one l (suc (suc k)) s w u = omega arith
+
+  no_two : 0xE0 ≤ a → NoText (a ∷ b ∷ [])
+  no_two l zero s w u = omega arith
+  no_two l (suc zero) s w u = let closed = ((StepsThen-IsUtf8 (a ∷ [])).1 u).1 in omega arith
+  no_two l (suc (suc zero)) s w u = let closed = ((StepsThen-IsUtf8 (a ∷ b ∷ [])).1 u).1.1 in omega arith
+  no_two l (suc (suc (suc k))) s w u = omega arith
+
+  no_three : 0xF0 ≤ a → NoText (a ∷ b ∷ d ∷ [])
+  no_three l zero s w u = omega arith
+  no_three l (suc zero) s w u = let closed = ((StepsThen-IsUtf8 (a ∷ [])).1 u).1 in omega arith
+  no_three l (suc (suc zero)) s w u = let closed = ((StepsThen-IsUtf8 (a ∷ b ∷ [])).1 u).1.1 in omega arith
+  no_three l (suc (suc (suc zero))) s w u = let closed = ((StepsThen-IsUtf8 (a ∷ b ∷ d ∷ [])).1 u).1.1.1 in omega arith
+  no_three l (suc (suc (suc (suc k)))) s w u = omega arith
+
+  pub cut_one : Leads a → IsUnfinished Utf8 (a ∷ [])
+  cut_one l = after_one a (refused (a ∷ []) (omega arith) (no_one l.0)) l
+
+  pub cut_two : Leads a → 0xE0 ≤ a → Follows a b → IsUnfinished Utf8 (a ∷ b ∷ [])
+  cut_two l high f = after_two a b (refused (a ∷ b ∷ []) (omega arith) (no_two high)) l f
+
+  pub cut_three : Leads a → 0xF0 ≤ a → Follows a b → (0x80 ≤ d) × (d ≤ 0xBF) → IsUnfinished Utf8 (a ∷ b ∷ d ∷ [])
+  cut_three l high f g = after_three a b d (refused (a ∷ b ∷ d ∷ []) (omega arith) (no_three high)) l f (omega arith, omega arith)

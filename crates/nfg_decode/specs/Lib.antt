@@ -6,6 +6,7 @@ pub mod Mark
 pub mod Reading
 pub mod Reads
 pub mod State
+pub mod Step
 pub mod Stream
 pub mod Tail
 pub mod Utf16

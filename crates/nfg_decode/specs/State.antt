@@ -1,11 +1,15 @@
 -- What a stream knows of the bytes that it has read (this project's own).
-use Rattle.std.specs.Prelude.{◌≡◌, ℕ, ◌+◌, List, [], ◌++◌, length, drop, Ok, MatchOption}
+use Rattle.std.specs.Prelude.{◌≡◌, ⊤, ℕ, ◌+◌, List, [], ◌∷◌, ◌++◌, length, drop, None, Ok, MatchOption}
 use Rattle.nfg_decode.specs.declared.encoding.Encoding.{Encoding}
 use Rattle.nfg_decode.specs.declared.encoding.Encoding.TheVariants.{Utf16}
 use Rattle.nfg_decode.specs.declared.reading.Form.{Form}
 use Rattle.nfg_decode.specs.declared.mark.Opening.{Opening}
 use Rattle.nfg_decode.specs.declared.state.State.{State}
 use Rattle.nfg_decode.specs.declared.state.Next.{Next}
+use Rattle.nfg_decode.specs.declared.step.Step.{Step}
+use Rattle.nfg_decode.specs.declared.step.Step.TheVariants.{Whole, Held, Other}
+use Rattle.nfg_decode.specs.declared.tail.Tail.{Tail}
+use Rattle.nfg_decode.specs.declared.tail.Tail.TheVariants.{Empty}
 use Rattle.nfg_decode.specs.Encoding.{decode, decoded_prefix, IsAlreadyMalformed}
 use Rattle.nfg_decode.specs.Reads.{IsUnfinished}
 use Rattle.nfg_decode.specs.Reading.{as_encoding}
@@ -47,3 +51,15 @@ IsReady s e bytes piece o = MatchOption o.form
 pub record HasAdvanced (e : Encoding) (bytes piece old new : List ℕ) (next : Next) : Type 0 where
   pub given : GivesNext e bytes piece old new
   pub state : MatchOption next.malformed (IsOpen next.state e (bytes ++ piece)) (λ at. IsAlreadyMalformed e (bytes ++ piece) at)
+
+-- the state behind a piece that is not malformed
+abbrev pub open_next : State → ℕ → Tail → Next
+open_next s settled tail = record { state = record { form = s.form; settled = settled; tail = tail }; malformed = None }
+
+-- the piece is one byte, and makes this of the held ones
+abbrev pub StepsOn : State → List ℕ → Step → Type 0
+StepsOn s piece (Whole code) = (length piece ≡ 1) × ((e : Encoding) (bytes old : List ℕ) → IsOpen s e bytes
+    → HasAdvanced e bytes piece old (old ++ code ∷ []) (open_next s (s.settled + length (bytes_of s.tail) + 1) Empty))
+StepsOn s piece (Held tail) = (length piece ≡ 1) × (length (bytes_of tail) ≡ length (bytes_of s.tail) + 1)
+    × ((e : Encoding) (bytes old : List ℕ) → IsOpen s e bytes → HasAdvanced e bytes piece old old (open_next s s.settled tail))
+StepsOn s piece Other = ⊤

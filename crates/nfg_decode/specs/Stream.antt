@@ -1,11 +1,13 @@
 -- What a stream has read (this project's own).
-use Rattle.std.specs.Prelude.{◌≡◌, ℕ, List, ◌++◌, Result, Err, MatchOption, IsErrOf}
+use Rattle.std.specs.Prelude.{◌≡◌, ⊤, ℕ, List, ◌++◌, None, Result, Err, MatchOption, IsErrOf}
 use Rattle.nfg_decode.specs.declared.encoding.Encoding.{Encoding}
 use Rattle.nfg_decode.specs.declared.encoding.DecodeError.{DecodeError}
 use Rattle.nfg_decode.specs.declared.encoding.DecodeError.TheVariants.{Malformed}
 use Rattle.nfg_decode.specs.declared.stream.ByteStream.{ByteStream}
+use Rattle.nfg_decode.specs.declared.step.Step.{Step}
+use Rattle.nfg_decode.specs.declared.step.Step.TheVariants.{Whole, Held, Other}
 use Rattle.nfg_decode.specs.Encoding.{IsAlreadyMalformed}
-use Rattle.nfg_decode.specs.State.{IsOpen, GivesNext}
+use Rattle.nfg_decode.specs.State.{IsOpen, GivesNext, StepsOn}
 use Rattle.nfg_decode.specs.Answer.{UnlessOutOfMemory}
 
 -- these bytes, in this encoding, are what was fed to the stream since it was made
@@ -23,3 +25,9 @@ pub record Feeds (e : Encoding) (bytes piece old new : List ℕ) (after : ByteSt
   pub malformed : (at : ℕ) → IsErrOf result (Malformed at) → IsAlreadyMalformed e (bytes ++ piece) at
   pub found : (at : ℕ) → IsAlreadyMalformed e (bytes ++ piece) at → UnlessOutOfMemory result (result ≡ Err (Malformed at))
   pub stays : (at : ℕ) → IsAlreadyMalformed e bytes at → (result ≡ Err (Malformed at)) × (new ≡ old)
+
+-- nothing was malformed yet, the piece is one byte, and it makes this of the held ones
+abbrev pub StepsFrom : ByteStream → List ℕ → Step → Type 0
+StepsFrom s piece (Whole code) = (s.malformed ≡ None) × StepsOn s.state piece (Whole code)
+StepsFrom s piece (Held tail) = (s.malformed ≡ None) × StepsOn s.state piece (Held tail)
+StepsFrom s piece Other = ⊤

@@ -9,6 +9,7 @@ mod part;
 mod reach;
 mod reading;
 mod state;
+mod step;
 mod stream;
 mod tail;
 #[cfg(test)]

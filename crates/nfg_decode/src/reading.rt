@@ -88,6 +88,7 @@ fn read_whole(form: Form, bytes: &[u8], into: &mut CodeList) -> Result<Reach, Al
 }
 
 /// Reads a piece from the start of a sequence, and holds back an unfinished one.
+#[inline(never)]
 fn read_piece(form: Form, piece: &[u8], into: &mut CodeList) -> Result<Reading, AllocError>
     ensures ok { IfOk result (ReadsOn (as_encoding form) piece.now into.old into.new) }
     ensures bound { IfOk result (λ reading.

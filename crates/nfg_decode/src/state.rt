@@ -3,12 +3,13 @@
 ghost use Rattle.std.specs.Prelude.{◌≡◌, ℕ, ◌+◌, ◌^◌, ◌≤◌, List, [], length, IfOk, OnErr};
 ghost use Rattle.nfg_decode.specs.declared.encoding.Encoding.{Encoding};
 ghost use Rattle.nfg_decode.specs.Reads.{Grew};
-ghost use Rattle.nfg_decode.specs.State.{IsOpen, IsReady, HasAdvanced};
+ghost use Rattle.nfg_decode.specs.State.{IsOpen, IsReady, HasAdvanced, StepsOn};
 ghost use Rattle.nfg_decode.specs.Tail.{bytes_of};
 
 use crate::encoding::Encoding;
 use crate::mark::{Opening, look_for_mark};
 use crate::reading::{Form, read_on};
+use crate::step::{Step, next_step};
 use crate::tail::Tail;
 use crate::utf16::ByteOrder;
 use nfg_text::CodeList;
@@ -65,6 +66,19 @@ fn opening_of(state: State, piece: &[u8]) -> Opening
             used: 0,
         },
     }
+}
+
+/// What a piece of one byte makes of the held bytes. It is not said of longer pieces, or before the mark.
+pub(crate) fn step_of(state: State, piece: &[u8]) -> Step
+    ensures { StepsOn state piece.now result }
+{
+    let Some(form) = state.form else {
+        return Step::Other;
+    };
+    let [byte] = piece else {
+        return Step::Other;
+    };
+    next_step(form, state.tail, *byte)
 }
 
 /// Reads the piece.

@@ -8,8 +8,9 @@ ghost use Rattle.nfg_decode.specs.Tail.{bytes_of};
 ghost use Rattle.nfg_decode.specs.Answer.{UnlessOutOfMemory, answer_of};
 
 use crate::encoding::{DecodeError, Encoding};
-use crate::state::{State, advance, first_state};
-use crate::tail::tail_len;
+use crate::state::{State, advance, first_state, step_of};
+use crate::step::Step;
+use crate::tail::{Tail, tail_len};
 use nfg_text::CodeList;
 use std::alloc::Global;
 
@@ -24,7 +25,7 @@ pub struct ByteStream {
 }
 
 impl ByteStream {
-    ghost use Rattle.nfg_decode.specs.Stream.{HasRead, Feeds, fed_count};
+    ghost use Rattle.nfg_decode.specs.Stream.{HasRead, Feeds, StepsFrom, fed_count};
 
     /// A stream in this encoding, to which nothing was fed yet. It takes no memory.
     #[tactic(auto, unfolding(crate::specs::Stream::fed_count))]
@@ -78,8 +79,49 @@ impl ByteStream {
         self.take_piece(piece, into)
     }
 
+    /// What a piece of one byte makes of the held bytes, where nothing was malformed before.
+    fn step(&self, piece: &[u8]) -> Step
+        ensures { StepsFrom self.now piece.now result }
+    {
+        match self.malformed {
+            Some(_) => Step::Other,
+            None => step_of(self.state, piece),
+        }
+    }
+
+    /// Takes a piece. A single byte that ends a sequence or is held takes a short way.
     #[tactic(auto, unfolding(crate::specs::Stream::fed_count))]
     fn take_piece(&mut self, piece: &[u8], into: &mut CodeList) -> Result<(), DecodeError>
+        requires { fed_count self.old + length piece.now ≤ 2 ^ 32 }
+        ensures feeds { (e : Encoding) (bytes : List ℕ) → HasRead self.old e bytes
+            → Feeds e bytes piece.now into.old into.new self.new result }
+        ensures out_of_memory { IsErrOf result DecodeError.OutOfMemory
+            → (self.new ≡ self.old) × (into.new ≡ into.old) }
+        ensures count { UnlessOutOfMemory result
+            (fed_count self.new ≡ fed_count self.old + length piece.now) }
+    {
+        match self.step(piece) {
+            Step::Whole(code) => {
+                let Ok(()) = into.append(&[code]) else {
+                    return Err(DecodeError::OutOfMemory);
+                };
+                let settled = self.state.settled + tail_len(self.state.tail) as u64 + 1;
+                self.fed += 1;
+                self.state.tail = Tail::Empty;
+                self.state.settled = settled;
+                Ok(())
+            }
+            Step::Held(tail) => {
+                self.fed += 1;
+                self.state.tail = tail;
+                Ok(())
+            }
+            Step::Other => self.take_any(piece, into),
+        }
+    }
+
+    #[tactic(auto, unfolding(crate::specs::Stream::fed_count))]
+    fn take_any(&mut self, piece: &[u8], into: &mut CodeList) -> Result<(), DecodeError>
         requires { fed_count self.old + length piece.now ≤ 2 ^ 32 }
         ensures feeds { (e : Encoding) (bytes : List ℕ) → HasRead self.old e bytes
             → Feeds e bytes piece.now into.old into.new self.new result }

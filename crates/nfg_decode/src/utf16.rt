@@ -5,8 +5,12 @@ ghost use Rattle.std.specs.Char.Utf16.{is_high_surrogate, is_low_surrogate, surr
 ghost use Rattle.nfg_decode.specs.Decoded.{after_text};
 ghost use Rattle.nfg_decode.specs.Utf16.{unit, is_surrogate, is_surely_low, may_be_low, is_hopeless, decode_utf16};
 ghost use Rattle.nfg_decode.specs.Reads.{Grew, Reads, AppendsUnits, utf16_form};
+ghost use Rattle.nfg_decode.specs.Step.{StepsTo};
+ghost use Rattle.nfg_decode.specs.Tail.{bytes_of};
 
 use crate::reach::Reach;
+use crate::step::Step;
+use crate::tail::Tail;
 use nfg_text::CodeList;
 use std::alloc::AllocError;
 
@@ -190,4 +194,65 @@ pub(crate) fn read_utf16(
     let at = append_units(order, bytes, codes, into)?;
     let is_malformed = is_past_hope(order, &bytes[at..]);
     Ok(Reach { at, is_malformed })
+}
+
+fn step_one(order: ByteOrder, x: u8) -> Step
+    ensures { StepsTo (utf16_form order) (x ∷ []) result }
+{
+    if is_first_low(order, x) {
+        return Step::Other;
+    }
+    Step::Held(Tail::One(x))
+}
+
+fn step_two(order: ByteOrder, x: u8, y: u8) -> Step
+    ensures { StepsTo (utf16_form order) (x ∷ y ∷ []) result }
+{
+    let unit = unit_of(order, x, y);
+    if is_lone(unit) {
+        return Step::Whole(unit);
+    }
+    if is_low(unit) {
+        return Step::Other;
+    }
+    Step::Held(Tail::Two(x, y))
+}
+
+fn step_three(order: ByteOrder, x: u8, y: u8, z: u8) -> Step
+    ensures { StepsTo (utf16_form order) (x ∷ y ∷ z ∷ []) result }
+{
+    let unit = unit_of(order, x, y);
+    if is_lone(unit) {
+        return Step::Other;
+    }
+    if is_low(unit) {
+        return Step::Other;
+    }
+    if !can_be_low(order, z) {
+        return Step::Other;
+    }
+    Step::Held(Tail::Three(x, y, z))
+}
+
+fn step_four(order: ByteOrder, x: u8, y: u8, z: u8, w: u8) -> Step
+    ensures { StepsTo (utf16_form order) (x ∷ y ∷ z ∷ w ∷ []) result }
+{
+    let high = unit_of(order, x, y);
+    let low = unit_of(order, z, w);
+    if is_pair(high, low) {
+        return Step::Whole(pair_code(high, low));
+    }
+    Step::Other
+}
+
+/// Takes one byte more.
+pub(crate) fn step_utf16(order: ByteOrder, tail: Tail, byte: u8) -> Step
+    ensures { StepsTo (utf16_form order) (bytes_of tail ++ byte ∷ []) result }
+{
+    match tail {
+        Tail::Empty => step_one(order, byte),
+        Tail::One(x) => step_two(order, x, byte),
+        Tail::Two(x, y) => step_three(order, x, y, byte),
+        Tail::Three(x, y, z) => step_four(order, x, y, z, byte),
+    }
 }

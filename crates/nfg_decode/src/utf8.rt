@@ -1,13 +1,18 @@
 //! UTF-8, checked by `simdutf8`.
 
-ghost use Rattle.std.specs.Prelude.{◌≡◌, ◌<◌, ◌≤◌, ◌++◌, length, take, IfOk, OnOk, OnErr, IsUtf8, chars};
+ghost use Rattle.std.specs.Prelude.{◌≡◌, ◌<◌, ◌≤◌, [], ◌∷◌, ◌++◌, length, take, IfOk, OnOk, OnErr, IsUtf8, chars};
 ghost use Rattle.std.specs.Str.{IsAscii, IsCharBoundary};
+ghost use Rattle.std.specs.Str.Lossy.{second_byte_min, second_byte_max};
 ghost use Rattle.std.specs.Bool.{OnTrue};
 ghost use Rattle.nfg_decode.specs.Reads.{Grew, Reads};
+ghost use Rattle.nfg_decode.specs.Step.{StepsTo};
+ghost use Rattle.nfg_decode.specs.Tail.{bytes_of};
 ghost use Rattle.nfg_decode.specs.declared.encoding.Encoding.TheVariants.{Utf8};
 
 use crate::part::widen;
 use crate::reach::Reach;
+use crate::step::Step;
+use crate::tail::Tail;
 use nfg_text::CodeList;
 use simdutf8::compat::from_utf8;
 use std::alloc::AllocError;
@@ -106,5 +111,107 @@ pub(crate) fn read_utf8(
                 is_malformed: error.error_len().is_some(),
             })
         }
+    }
+}
+
+/// Whether the second byte may follow the first (Table 3-7).
+fn follows(a: u8, b: u8) -> bool
+    ensures leads { OnTrue result ((0xC2 ≤ a) × (a ≤ 0xF4)) }
+    ensures least { OnTrue result (second_byte_min a ≤ b) }
+    ensures most { OnTrue result (b ≤ second_byte_max a) }
+{
+    if a < 0xC2 || a > 0xF4 {
+        return false;
+    }
+    match a {
+        0xE0 => 0xA0 <= b && b <= 0xBF,
+        0xED => 0x80 <= b && b <= 0x9F,
+        0xF0 => 0x90 <= b && b <= 0xBF,
+        0xF4 => 0x80 <= b && b <= 0x8F,
+        _ => 0x80 <= b && b <= 0xBF,
+    }
+}
+
+/// Whether the byte may be a third or fourth one.
+fn continues(b: u8) -> bool
+    ensures { OnTrue result ((0x80 ≤ b) × (b ≤ 0xBF)) }
+{
+    0x80 <= b && b <= 0xBF
+}
+
+fn step_one(a: u8) -> Step
+    ensures { StepsTo Utf8 (a ∷ []) result }
+{
+    if a < 0x80 {
+        return Step::Whole(u32::from(a));
+    }
+    if a < 0xC2 {
+        return Step::Other;
+    }
+    if a > 0xF4 {
+        return Step::Other;
+    }
+    Step::Held(Tail::One(a))
+}
+
+fn step_two(a: u8, b: u8) -> Step
+    ensures { StepsTo Utf8 (a ∷ b ∷ []) result }
+{
+    if !follows(a, b) {
+        return Step::Other;
+    }
+    if a < 0xE0 {
+        return Step::Whole((u32::from(a) - 0xC0) * 0x40 + (u32::from(b) - 0x80));
+    }
+    Step::Held(Tail::Two(a, b))
+}
+
+fn step_three(a: u8, b: u8, c: u8) -> Step
+    ensures { StepsTo Utf8 (a ∷ b ∷ c ∷ []) result }
+{
+    if !follows(a, b) {
+        return Step::Other;
+    }
+    if !continues(c) {
+        return Step::Other;
+    }
+    if a < 0xE0 {
+        return Step::Other;
+    }
+    if a < 0xF0 {
+        let high = (u32::from(a) - 0xE0) * 0x1000 + (u32::from(b) - 0x80) * 0x40;
+        return Step::Whole(high + (u32::from(c) - 0x80));
+    }
+    Step::Held(Tail::Three(a, b, c))
+}
+
+fn step_four(a: u8, b: u8, c: u8, d: u8) -> Step
+    ensures { StepsTo Utf8 (a ∷ b ∷ c ∷ d ∷ []) result }
+{
+    if !follows(a, b) {
+        return Step::Other;
+    }
+    if !continues(c) {
+        return Step::Other;
+    }
+    if !continues(d) {
+        return Step::Other;
+    }
+    if a < 0xF0 {
+        return Step::Other;
+    }
+    let high = (u32::from(a) - 0xF0) * 0x4_0000 + (u32::from(b) - 0x80) * 0x1000;
+    Step::Whole(high + (u32::from(c) - 0x80) * 0x40 + (u32::from(d) - 0x80))
+}
+
+/// Takes one byte more.
+pub(crate) fn step_utf8(tail: Tail, byte: u8) -> Step
+    ensures { StepsTo Utf8 (bytes_of tail ++ byte ∷ []) result }
+{
+    match tail {
+        Tail::Empty => step_one(byte),
+        Tail::One(a) => step_two(a, byte),
+        Tail::Two(a, b) => step_three(a, b, byte),
+        Tail::Three(a, b, c) => step_four(a, b, c, byte),
     }
 }

@@ -1,0 +1,5 @@
+use Rattle.nfg_bench.proofs.TextLemmas.{text_part}
+use Rattle.nfg_bench.proofs.pipeline.numbers_of.Goals as goal
+
+pub number_of-requires-clause-text : goal.number_of-requires-clause-text
+number_of-requires-clause-text c = text_part _ _ c.args.codes.now c.requires.text

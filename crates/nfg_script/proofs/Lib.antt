@@ -1,0 +1,4 @@
+mod Examples
+pub mod Blanks
+pub mod Digits
+pub mod Places

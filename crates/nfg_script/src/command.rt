@@ -1,0 +1,40 @@
+//! The commands of a script.
+use nfg_decode::Encoding;
+
+/// A command. A name is a number: its place in the order in which the script defines names, from 0.
+#[derive(Clone, Copy, Debug, PartialEq, Eq)]
+pub enum Command {
+    /// The name gets the graphemes of a file in this encoding.
+    Load {
+        name: u32,
+        enc: Encoding,
+    },
+    /// The name gets the graphemes of the code points that the line gives.
+    Text {
+        name: u32,
+    },
+    /// The name gets at most `count` graphemes of `a` from place `start` on, counted from 0.
+    Sub {
+        name: u32,
+        a: u32,
+        start: u64,
+        count: u64,
+    },
+    /// Prints how many graphemes `a` has.
+    Len {
+        a: u32,
+    },
+    /// Prints the code points of each grapheme of `a`.
+    Show {
+        a: u32,
+    },
+    /// Prints the pieces of `a`.
+    Shape {
+        a: u32,
+    },
+    /// Writes the bytes of `a` in this encoding.
+    Put {
+        a: u32,
+        enc: Encoding,
+    },
+}
