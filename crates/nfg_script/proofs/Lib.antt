@@ -1,4 +1,6 @@
 mod Examples
 pub mod Blanks
+pub mod CodePoints
 pub mod Digits
 pub mod Places
+pub mod Texts

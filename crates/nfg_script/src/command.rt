@@ -1,4 +1,7 @@
 //! The commands of a script.
+ghost use Rattle.std.specs.Prelude.{◌≡◌};
+ghost use Rattle.nfg_script.specs.Script.{is_load};
+
 use nfg_decode::Encoding;
 
 /// A command. A name is a number: its place in the order in which the script defines names, from 0.
@@ -37,4 +40,13 @@ pub enum Command {
         a: u32,
         enc: Encoding,
     },
+}
+
+impl Command {
+    /// Whether it loads a file.
+    pub(crate) fn is_load(self) -> bool
+        ensures { result ≡ is_load self }
+    {
+        matches!(self, Command::Load { .. })
+    }
 }
