@@ -2,5 +2,6 @@ mod Examples
 pub mod Blanks
 pub mod CodePoints
 pub mod Digits
+pub mod Loads
 pub mod Places
 pub mod Texts

@@ -1,5 +1,5 @@
 //! The commands of a script.
-ghost use Rattle.std.specs.Prelude.{◌≡◌};
+ghost use Rattle.std.specs.Prelude.{◌≡◌, if◌then◌else◌};
 ghost use Rattle.nfg_script.specs.Script.{is_load};
 
 use nfg_decode::Encoding;
@@ -43,10 +43,13 @@ pub enum Command {
 }
 
 impl Command {
-    /// Whether it loads a file.
-    pub(crate) fn is_load(self) -> bool
-        ensures { result ≡ is_load self }
+    /// How many files it loads.
+    pub(crate) fn loads(self) -> usize
+        ensures { result ≡ (if is_load self then 1 else 0) }
     {
-        matches!(self, Command::Load { .. })
+        match self {
+            Command::Load { .. } => 1,
+            _ => 0,
+        }
     }
 }

@@ -43,7 +43,7 @@ impl Script {
     pub(crate) fn push(&mut self, line: Line) -> Result<(), AllocError>
         ensures { OnOk result (self.new ≡ self.old ++ numbered_command line ∷ []) }
     {
-        let loads = usize::from(line.command.is_load());
+        let loads = line.command.loads();
         self.lines.push(line)?;
         self.loads += loads;
         Ok(())
