@@ -2,6 +2,7 @@ mod Examples
 pub mod Blanks
 pub mod CodePoints
 pub mod Digits
+pub mod Lines
 pub mod Loads
 pub mod Places
 pub mod Texts
