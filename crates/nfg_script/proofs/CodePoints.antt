@@ -67,10 +67,10 @@ unfolding code_points_of
 code_points-text [] codes e = let same : [] ≡ codes = cc in rw (← same) refl
 code_points-text (word ∷ words) codes e =
     first (λ rest. code_points-text words rest) (code_point_of word) (code_points_of words) refl refl e where
-  first : ((rest : List ℕ) → code_points_of words ≡ Ok rest → IsText rest) → (head : Result ℕ Reason) (tail : Result (List ℕ) Reason) → code_point_of word ≡ head → code_points_of words ≡ tail
-      → (head >>= λ c. tail >>= λ rest. Ok (c ∷ rest)) ≡ Ok codes → IsText codes
-  first later (Ok c) (Ok rest) f g e =
-      let same : c ∷ rest ≡ codes = cc in
-      subst IsText same (scalars-cons c rest (code_point-scalar word c f) (later rest g))
-  first later (Ok c) (Err reason) f g e = cc
-  first later (Err reason) tail f g e = cc
+      first : ((rest : List ℕ) → code_points_of words ≡ Ok rest → IsText rest) → (head : Result ℕ Reason) (tail : Result (List ℕ) Reason) → code_point_of word ≡ head → code_points_of words ≡ tail
+          → (head >>= λ c. tail >>= λ rest. Ok (c ∷ rest)) ≡ Ok codes → IsText codes
+      first later (Ok c) (Ok rest) f g e =
+          let same : c ∷ rest ≡ codes = cc in
+          subst IsText same (scalars-cons c rest (code_point-scalar word c f) (later rest g))
+      first later (Ok c) (Err reason) f g e = cc
+      first later (Err reason) tail f g e = cc

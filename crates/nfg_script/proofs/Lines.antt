@@ -18,7 +18,7 @@ first_empty : (parts : List (List ℕ)) → 0 < length parts
 first_empty [] some = absurd (omega arith)
 first_empty (part ∷ parts) some = omega arith
 
-not_empty : (x : ℕ) (part : List ℕ) → (length (x ∷ part) == 0) ≡ false
+pub not_empty : (x : ℕ) (part : List ℕ) → (length (x ∷ part) == 0) ≡ false
 not_empty x part = grind (arith, nat_tests)
 
 -- parts of which the first isn't empty

@@ -1,7 +1,9 @@
 -- What the readers of a line answer (this project's own).
-use Rattle.std.specs.Prelude.{◌≡◌, ℕ, List, map, Option, Some, None, Result, Ok, Err, option_map, IfSome, string_bytes}
+use Rattle.std.specs.Prelude.{◌≡◌, ◌≢◌, ℕ, List, map, Option, Some, None, Result, Ok, Err, option_map, IfSome, string_bytes}
 use Rattle.std.specs.Borrow.{Bor}
 use Rattle.nfg_script.specs.declared.error.Reason.{Reason}
+use Rattle.nfg_script.specs.declared.error.ScriptError.{ScriptError}
+use Rattle.nfg_script.specs.declared.error.ScriptError.TheVariants.{OutOfMemory as NoMemory}
 use Rattle.nfg_script.specs.declared.line_read.LineError.{LineError}
 use Rattle.nfg_script.specs.declared.line_read.LineError.TheVariants.{Refused, OutOfMemory}
 use Rattle.nfg_script.specs.declared.line_read.LineRead.{LineRead as Found}
@@ -50,3 +52,8 @@ numbered_command kept = record {
   path = string_bytes kept.path;
   codes = kept.codes;
 }
+
+-- the answer of a reader of lines is what reading gives, unless memory ran out
+abbrev pub Answers : Result (List NumberedCommand) ScriptError → Result (List NumberedCommand) ScriptError → Type 0
+Answers (Ok script) read = read ≡ Ok script
+Answers (Err error) read = error ≢ NoMemory → read ≡ Err error

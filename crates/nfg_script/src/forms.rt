@@ -6,22 +6,17 @@ ghost use Rattle.nfg_script.specs.Line.{load_form as load_read, text_form as tex
 ghost use Rattle.nfg_script.specs.Line.{new_and_known as both_names, two_numbers as both_numbers};
 ghost use Rattle.nfg_script.specs.Line.{one_name as one_name_read, put_form as put_read, form_of, command_alone};
 
-use crate::Command;
-use crate::Reason;
+use crate::code_points::read_code_points;
 use crate::line_read::{LineError, LineRead};
 use crate::names::{Names, read_known_name, read_new_name};
-use crate::code_points::read_code_points;
 use crate::word::{read_encoding, read_number};
+use crate::{Command, Reason};
 use nfg_text::CodeList;
 use std::alloc::Global;
 
 /// `load N ENC PATH`
 #[tactic(auto, unfolding(crate::specs::Line::load_form))]
-fn load_form<'a>(
-    alloc: Global,
-    names: &Names,
-    words: &[&'a str],
-) -> Result<LineRead<'a>, LineError>
+fn load_form<'a>(alloc: Global, names: &Names, words: &[&'a str]) -> Result<LineRead<'a>, LineError>
     requires { length names.now < 2 ^ 32 }
     ensures read { Gives line_read result (load_read names.now (texts words.now)) }
     ensures new { IfOk result (λ read. DefinesNew names.now read) }
@@ -41,11 +36,7 @@ fn load_form<'a>(
 
 /// `text N HEX ...`
 #[tactic(auto, unfolding(crate::specs::Line::text_form))]
-fn text_form<'a>(
-    alloc: Global,
-    names: &Names,
-    words: &[&'a str],
-) -> Result<LineRead<'a>, LineError>
+fn text_form<'a>(alloc: Global, names: &Names, words: &[&'a str]) -> Result<LineRead<'a>, LineError>
     requires { length names.now < 2 ^ 32 }
     ensures read { Gives line_read result (text_read names.now (texts words.now)) }
     ensures new { IfOk result (λ read. DefinesNew names.now read) }
@@ -86,11 +77,7 @@ fn two_numbers(first: &str, second: &str) -> Result<(u64, u64), Reason>
 
 /// `sub N A START LEN`
 #[tactic(auto, unfolding(crate::specs::Line::sub_form))]
-fn sub_form<'a>(
-    alloc: Global,
-    names: &Names,
-    words: &[&'a str],
-) -> Result<LineRead<'a>, LineError>
+fn sub_form<'a>(alloc: Global, names: &Names, words: &[&'a str]) -> Result<LineRead<'a>, LineError>
     requires { length names.now < 2 ^ 32 }
     ensures read { Gives line_read result (sub_read names.now (texts words.now)) }
     ensures new { IfOk result (λ read. DefinesNew names.now read) }

@@ -1,7 +1,8 @@
 //! A script is read.
 ghost use Rattle.std.specs.Prelude.{◌≡◌, ◌≢◌, ◌≤◌, ◌<◌, ◌+◌, ◌^◌, [], Ok, Err, IfOk, IfErr, OnOk, IfSome, None, length, map, count_by, ◌==◌};
+ghost use Rattle.std.specs.List.{slice_split};
 ghost use Rattle.std.specs.Str.Lines.{strip_carriage_return};
-ghost use Rattle.nfg_script.specs.Answer.{texts, so_far, line_read, DefinesNew};
+ghost use Rattle.nfg_script.specs.Answer.{texts, so_far, line_read, DefinesNew, Answers};
 ghost use Rattle.nfg_script.specs.Words.{words_of};
 ghost use Rattle.nfg_script.specs.Line.{is_skipped as skipped};
 ghost use Rattle.nfg_script.specs.Grammar.{lines_of, and_command, and_line, commands_from, parse as parsed};
@@ -122,14 +123,55 @@ fn read_line<'a>(
     }
 }
 
+/// Reads the lines of a script in order.
+fn read_lines(alloc: Global, lines: &[&str]) -> Result<Script, ScriptError>
+    requires { length lines.now ≤ 10001 }
+    ensures { Answers result (commands_from (so_far [] []) 1 (map strip_carriage_return (texts lines.now))) }
+{
+    let mut names = Names::new(alloc);
+    let mut script = Script::new(alloc);
+    for k in 0..lines.len() {
+        let line = without_carriage_return(lines[k]);
+        read_line(alloc, &mut names, &mut script, k as u32 + 1, line)?;
+    }
+    Ok(script)
+}
+
+/// The parts of a text between line feeds.
+fn parts<'a>(alloc: Global, text: &'a str) -> Result<Vec<&'a str>, AllocError>
+    ensures { IfOk result (λ parts. texts parts.items ≡ slice_split (λ b. b == 10) text.now) }
+{
+    text.split('\n').collect(alloc)
+}
+
+/// Reads the lines of a text.
+fn read_text(alloc: Global, text: &str) -> Result<Script, ScriptError>
+    requires { length (lines_of text.now) ≤ 10000 }
+    ensures { Answers result (commands_from (so_far [] []) 1 (lines_of text.now)) }
+{
+    let parts = parts(alloc, text)?;
+    read_lines(alloc, parts.as_slice())
+}
+
 /// The commands of a script.
 ///
 /// Refuses with `TooLong` where the script has over 2^20 bytes or over 10,000 lines, with `Malformed`
 /// where it isn't UTF-8, and with `Line` at the first line that is no command, for its first reason.
-pub fn parse(_alloc: Global, bytes: &[u8]) -> Result<Script, ScriptError>
+#[tactic(auto, unfolding(crate::specs::Grammar::parse))]
+pub fn parse(alloc: Global, bytes: &[u8]) -> Result<Script, ScriptError>
     ensures parsed { IfOk result (λ script. parsed bytes.now ≡ Ok script) }
     ensures refused { IfErr result (λ error. error ≢ ScriptError.OutOfMemory → parsed bytes.now ≡ Err error) }
 {
-    let _ = bytes;
-    Err(ScriptError::OutOfMemory)
+    if bytes.len() > BYTE_LIMIT {
+        return Err(ScriptError::TooLong);
+    }
+    if line_count(bytes) > LINE_LIMIT {
+        return Err(ScriptError::TooLong);
+    }
+    match from_utf8(bytes) {
+        Ok(text) => read_text(alloc, text),
+        Err(error) => Err(ScriptError::Malformed {
+            at: error.valid_up_to() as u64,
+        }),
+    }
 }
