@@ -4,7 +4,11 @@
 mod error;
 mod numbering;
 mod reader;
+#[cfg(test)]
+mod spelled;
 mod stream;
+#[cfg(test)]
+mod tests;
 mod whole;
 
 pub use error::LoadError;
