@@ -53,6 +53,24 @@ impl Script {
     {
         self.lines[k].command
     }
+
+    /// The line of the command at `k`, counted from 1.
+    pub fn line(&self, k: usize) -> u32
+        requires { k < length self.now }
+        ensures { IfSome (slice_get self.now k) (λ numbered. result ≡ numbered.line) }
+    {
+        self.lines[k].number
+    }
+
+    /// The code points of the text at `k`.
+    pub fn codes(&self, k: usize) -> &[u32]
+        requires place { k < length self.now }
+        requires text { IfSome (slice_get self.now k) (λ numbered. is_text numbered.command ≡ true) }
+        ensures codes { IfSome (slice_get self.now k) (λ numbered. result.now ≡ numbered.codes) }
+        ensures scalar_values { IsText result.now }
+    {
+        self.lines[k].codes.as_slice()
+    }
 }
 
 /// The commands of a script.
