@@ -1,0 +1,5 @@
+pub mod Members
+pub mod InUse
+pub mod Narrow
+pub mod Strings
+pub mod Defined

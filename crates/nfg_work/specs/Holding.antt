@@ -9,7 +9,7 @@ use Rattle.nfg_stream.specs.declared.error.LoadError.{LoadError}
 use Rattle.nfg_stream.specs.declared.error.LoadError.TheVariants.{Malformed, ClusterLong, RowFull, NoPortion, OutOfMemory as NoMemory}
 use Rattle.nfg_work.specs.declared.evaluation.Evaluation.{Evaluation}
 use Rattle.nfg_work.specs.declared.output.Cause.{Cause}
-use Rattle.nfg_work.specs.declared.output.Cause.TheVariants.{NotEncodable, OutputTooLong, ClusterTooLong, TableFull, Malformed as TextMalformed}
+use Rattle.nfg_work.specs.declared.output.Cause.TheVariants.{AllTooLong, NotEncodable, OutputTooLong, ClusterTooLong, TableFull, Malformed as TextMalformed}
 use Rattle.nfg_work.specs.declared.output.FileRead.{FileRead}
 use Rattle.nfg_work.specs.declared.stop.Stop.{Stop}
 use Rattle.nfg_work.specs.declared.stop.Stop.TheVariants.{Refused, OutOfMemory}
@@ -68,6 +68,13 @@ IsStopOf (ClusterLong at) stop = stop ≡ Refused (ClusterTooLong at)
 IsStopOf RowFull stop = stop ≡ Refused TableFull
 IsStopOf NoPortion stop = stop ≡ Refused TableFull
 IsStopOf NoMemory stop = stop ≡ OutOfMemory
+
+-- the same for a load that may cost too much: malformed bytes come before the cost, and the cost before the rest
+abbrev pub IsStopAfter : (over : Bool) → LoadError → Stop → Type 0
+IsStopAfter over (Malformed at) stop = stop ≡ Refused (TextMalformed at)
+IsStopAfter over NoMemory stop = stop ≡ OutOfMemory
+IsStopAfter true error stop = stop ≡ Refused AllTooLong
+IsStopAfter false error stop = IsStopOf error stop
 
 -- one more string stands at the end, and its cost is spent
 pub record IsDefined (old new : Evaluation) (cost : ℕ) (string : Rope) : Type 0 where

@@ -1,5 +1,5 @@
 //! The commands that define a name: `text`, `load` and `sub`.
-ghost use Rattle.std.specs.Prelude.{◌≡◌, ℕ, ◌+◌, ◌≤◌, nat_lt, List, length, OnOk};
+ghost use Rattle.std.specs.Prelude.{◌≡◌, ℕ, ◌+◌, ◌≤◌, nat_lt, List, length, OnOk, IfErr};
 ghost use Rattle.nfg_text.specs.Text.{IsText};
 ghost use Rattle.nfg_text.specs.Graphemes.{graphemes_of};
 ghost use Rattle.nfg_decode.specs.Encoding.{decode};
@@ -7,8 +7,9 @@ ghost use Rattle.nfg_syn.specs.OwnTexts.{IsOwnPass, seen_of};
 ghost use Rattle.nfg_syn.specs.Seen.{Keeps};
 ghost use Rattle.nfg_stream.specs.Load.{HasLoaded};
 ghost use Rattle.nfg_work.specs.declared.output.FileRead.{FileRead};
+ghost use Rattle.nfg_work.specs.declared.stop.Stop.{Stop};
 ghost use Rattle.nfg_work.specs.Evaluation.{State, define_new, define_decoded, load as load_next, define_part, value_of, AreWithinLimit};
-ghost use Rattle.nfg_work.specs.Holding.{Holds, Follows, IsStopOf, IsDefined};
+ghost use Rattle.nfg_work.specs.Holding.{Holds, Follows, IsStopOf, IsStopAfter, IsDefined};
 
 use crate::evaluation::Evaluation;
 use crate::naming::string_of_name;
@@ -47,10 +48,28 @@ fn stop_of(error: LoadError) -> Stop
     }
 }
 
+/// Why a load defines no name: malformed bytes come before the cost, and the cost before the rest.
+fn stop_after(error: LoadError, over: bool) -> Stop
+    ensures { IsStopAfter over error result }
+{
+    match error {
+        LoadError::Malformed { at } => Stop::Refused(Cause::Malformed { at }),
+        LoadError::OutOfMemory => Stop::OutOfMemory,
+        _ => {
+            if over {
+                Stop::Refused(Cause::AllTooLong)
+            } else {
+                stop_of(error)
+            }
+        }
+    }
+}
+
 /// The next name gets the string, at this cost.
 fn define(held: &mut Evaluation, cost: u64, string: NString) -> Result<(), Stop>
     requires { held.old.spent + cost ≤ 536870912 }
-    ensures { OnOk result (IsDefined held.old held.new cost string) }
+    ensures defined { OnOk result (IsDefined held.old held.new cost string) }
+    ensures refused { IfErr result (λ stop. stop ≡ Stop.OutOfMemory) }
 {
     match held.strings.push(string) {
         Ok(()) => {
@@ -113,20 +132,13 @@ fn load_file(
     let cost = bytes.len() as u64;
     let over = is_over(held.spent, cost);
     match load_bytes(alloc, &held.table, &mut held.pass, e, bytes) {
-        Err(LoadError::Malformed { at }) => Err(Stop::Refused(Cause::Malformed { at })),
-        Err(LoadError::OutOfMemory) => Err(Stop::OutOfMemory),
         Ok(string) => {
             if over {
                 return Err(Stop::Refused(Cause::AllTooLong));
             }
             define(held, cost, string)
         }
-        Err(error) => {
-            if over {
-                return Err(Stop::Refused(Cause::AllTooLong));
-            }
-            Err(stop_of(error))
-        }
+        Err(error) => Err(stop_after(error, over)),
     }
 }
 
