@@ -3,3 +3,4 @@ pub mod InUse
 pub mod Narrow
 pub mod Strings
 pub mod Defined
+pub mod Parts
