@@ -4,3 +4,4 @@ pub mod Narrow
 pub mod Strings
 pub mod Defined
 pub mod Parts
+pub mod Hexadecimals
