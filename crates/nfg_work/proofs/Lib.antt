@@ -5,3 +5,5 @@ pub mod Strings
 pub mod Defined
 pub mod Parts
 pub mod Hexadecimals
+pub mod Joined
+pub mod Tables

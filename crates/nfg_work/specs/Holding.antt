@@ -2,6 +2,8 @@
 use Rattle.std.specs.Prelude.{◌≡◌, ℕ, ◌+◌, ◌<◌, Bool, true, false, nat_lt, List, [], ◌∷◌, ◌++◌, length, take, drop, bytes_eq, Option, Some, None, Result, Ok, Err}
 use Rattle.std.specs.List.{AllZip}
 use Rattle.std.specs.Set.{is_member}
+use Rattle.nfg_text.specs.Text.{text_of}
+use Rattle.nfg_decode.specs.declared.encoding.Encoding.{Encoding}
 use Rattle.nfg_syn.specs.OwnTexts.{OwnTexts, IsOwnPass, known_of}
 use Rattle.nfg_syn.specs.Represents.{Represents}
 use Rattle.nfg_strand.specs.Value.{Rope}
@@ -14,7 +16,7 @@ use Rattle.nfg_work.specs.declared.output.FileRead.{FileRead}
 use Rattle.nfg_work.specs.declared.stop.Stop.{Stop}
 use Rattle.nfg_work.specs.declared.stop.Stop.TheVariants.{Refused, OutOfMemory}
 use Rattle.nfg_work.specs.Values.{Value}
-use Rattle.nfg_work.specs.Evaluation.{State, output_limit}
+use Rattle.nfg_work.specs.Evaluation.{State, output_limit, first_lacking}
 
 -- the string stands for the value's clusters, in its pieces
 pub record IsStringOf (texts : List (List ℕ)) (string : Rope) (value : Value) : Type 0 where
@@ -91,10 +93,12 @@ pub record IsRefusedAt (had : ℕ) (old new : List ℕ) (stop : Stop) : Type 0 w
   pub over : output_limit < length old
   pub front : new ≡ take had old
 
--- the refusal of a string whose first cluster that the encoding lacks stands at this place
-abbrev pub IsLackedAt : Option ℕ → Stop → Type 0
-IsLackedAt (Some at) stop = stop ≡ Refused (NotEncodable at)
-IsLackedAt None stop = stop ≡ OutOfMemory
+-- the code points of clusters are added, unless the encoding lacks one; the first of them is the grapheme at `at`
+abbrev pub Gathers : Encoding → (clusters : List (List ℕ)) → (at : ℕ) → (old new : List ℕ) → Result (Unit {0}) Stop → Type 0
+Gathers e clusters at old new (Ok done) = (first_lacking e clusters ≡ None) × (new ≡ old ++ text_of clusters)
+Gathers e clusters at old new (Err (Refused cause)) =
+    (k : ℕ) × (first_lacking e clusters ≡ Some k) × (cause ≡ NotEncodable (at + k))
+Gathers e clusters at old new (Err OutOfMemory) = Unit {0}
 
 -- the bytes are added to the output, unless a cluster isn't encodable or it would be too long
 abbrev pub Puts : Option ℕ → (old new : List ℕ) → Result (Unit {0}) Stop → (bytes : List ℕ) → Type 0

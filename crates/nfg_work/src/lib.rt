@@ -11,6 +11,7 @@ mod naming;
 mod output;
 mod printing;
 mod put;
+mod spelling;
 mod stop;
 
 pub use alone::run_alone;

@@ -1,11 +1,9 @@
 //! The commands that print a line: `len`, `show` and `shape`.
-ghost use Rattle.std.specs.Prelude.{◌≡◌, ◌≤◌, ◌<◌, ◌++◌, ℕ, List, OnOk, IfErr, Some, length, slice_get};
+ghost use Rattle.std.specs.Prelude.{◌≡◌, ◌≤◌, ◌<◌, ◌++◌, ℕ, List, OnOk, IfErr, length};
 ghost use Rattle.std.specs.List.{flat_map};
 ghost use Rattle.std.specs.Fmt.{decimal};
-ghost use Rattle.nfg_syn.specs.Known.{text_at};
 ghost use Rattle.nfg_syn.specs.OwnTexts.{IsOwnPass, known_of};
-ghost use Rattle.nfg_syn.specs.Represents.{Represents, spelling};
-ghost use Rattle.nfg_strand.specs.declared.piece.Piece.{Piece};
+ghost use Rattle.nfg_syn.specs.Represents.{Represents};
 ghost use Rattle.nfg_work.specs.Printing.{shown, shape as shape_of, piece_text, line_of};
 ghost use Rattle.nfg_work.specs.Evaluation.{output_limit};
 ghost use Rattle.nfg_work.specs.Holding.{Prints, AreSpelled, IsRefusedAt};
@@ -13,9 +11,10 @@ ghost use Rattle.nfg_work.specs.Separated.{shown_with_space};
 
 use crate::Cause;
 use crate::hexadecimal::append_number;
+use crate::spelling::{CLUSTER_LIMIT, spell};
 use crate::stop::Stop;
-use nfg_strand::NString;
-use nfg_syn::{OwnPass, OwnTable, Synthetics};
+use nfg_strand::{NString, Piece};
+use nfg_syn::{OwnPass, OwnTable};
 use nfg_text::ByteList;
 use std::alloc::{AllocError, Global};
 
@@ -48,23 +47,15 @@ pub(crate) fn len(alloc: Global, string: &NString, output: &mut ByteList) -> Res
 }
 
 /// Adds the text of a piece.
-fn append_piece(
-    alloc: Global,
-    string: &NString,
-    k: usize,
-    output: &mut ByteList,
-) -> Result<(), AllocError>
-    requires { k < length string.now.pieces }
-    ensures { OnOk result ((piece : Piece) × (slice_get string.now.pieces k ≡ Some piece)
-        × (output.new ≡ output.old ++ piece_text piece)) }
+fn append_piece(alloc: Global, piece: Piece, output: &mut ByteList) -> Result<(), AllocError>
+    ensures { OnOk result (output.new ≡ output.old ++ piece_text piece) }
 {
-    let piece = string.piece(k);
-    let text = if piece.narrow {
-        format!(in alloc; " {}x{}/8", piece.length, piece.times)?
-    } else {
-        format!(in alloc; " {}x{}/32", piece.length, piece.times)?
-    };
-    output.append(text.as_bytes())
+    let counts = format!(in alloc; " {}x{}", piece.length, piece.times)?;
+    output.append(counts.as_bytes())?;
+    if piece.narrow {
+        return output.append(b"/8");
+    }
+    output.append(b"/32")
 }
 
 /// Prints the pieces of the string.
@@ -76,51 +67,22 @@ pub(crate) fn shape(alloc: Global, string: &NString, output: &mut ByteList) -> R
     let start = format!(in alloc; "strands {count}")?;
     output.append(start.as_bytes())?;
     'printing: for k in 0..count {
-        append_piece(alloc, string, k, output)?;
+        append_piece(alloc, string.piece(k), output)?;
     }
     output.append(b"\n")?;
     within_limit(output, had)
 }
 
-/// Adds the code points of a synthetic or of CR LF, `+` between two, and then a space.
-fn show_synthetic(
-    table: &OwnTable,
-    pass: &mut OwnPass,
-    n: i32,
-    output: &mut ByteList,
-) -> Result<(), AllocError>
-    requires table { IsOwnPass table.now pass.old }
-    requires known { (cluster : List ℕ) × (text_at (known_of pass.old.texts) n ≡ Some cluster) }
-    ensures table { IsOwnPass table.now pass.new }
-    ensures texts { pass.new.texts ≡ pass.old.texts }
-    ensures shown { (cluster : List ℕ) → text_at (known_of pass.old.texts) n ≡ Some cluster
-        → OnOk result (output.new ≡ output.old ++ shown_with_space cluster) }
+/// Adds the code points, `+` between two, and then a space.
+fn append_cluster(cluster: &[u32], output: &mut ByteList) -> Result<(), AllocError>
+    requires { 0 < length cluster.now }
+    ensures { OnOk result (output.new ≡ output.old ++ shown_with_space cluster.now) }
 {
-    let last = table.count(pass, n) - 1;
-    'spelling: for k in 0..last {
-        append_number(table.code(pass, n, k), b'+', output)?;
+    let last = cluster.len() - 1;
+    'showing: for k in 0..last {
+        append_number(cluster[k], b'+', output)?;
     }
-    append_number(table.code(pass, n, last), b' ', output)
-}
-
-/// Adds the code points of the cluster that the number stands for, `+` between two, and then a space.
-fn show_cluster(
-    table: &OwnTable,
-    pass: &mut OwnPass,
-    n: i32,
-    output: &mut ByteList,
-) -> Result<(), AllocError>
-    requires table { IsOwnPass table.now pass.old }
-    requires known { (cluster : List ℕ) × (spelling (known_of pass.old.texts) n ≡ Some cluster) }
-    ensures table { IsOwnPass table.now pass.new }
-    ensures texts { pass.new.texts ≡ pass.old.texts }
-    ensures shown { (cluster : List ℕ) → spelling (known_of pass.old.texts) n ≡ Some cluster
-        → OnOk result (output.new ≡ output.old ++ shown_with_space cluster) }
-{
-    if n >= 0 {
-        return append_number(n as u32, b' ', output);
-    }
-    show_synthetic(table, pass, n, output)
+    append_number(cluster[last], b' ', output)
 }
 
 /// Adds the clusters that the numbers stand for, a space after each.
@@ -128,28 +90,44 @@ fn show_part(
     table: &OwnTable,
     pass: &mut OwnPass,
     numbers: &[i32],
+    buffer: &mut [u32],
     output: &mut ByteList,
 ) -> Result<(), AllocError>
     requires table { IsOwnPass table.now pass.old }
     requires known { (clusters : List (List ℕ))
         × Represents (known_of pass.old.texts) numbers.now clusters }
+    requires room { length buffer.old ≡ 1024 }
     ensures table { IsOwnPass table.now pass.new }
     ensures texts { pass.new.texts ≡ pass.old.texts }
+    ensures room { length buffer.new ≡ 1024 }
     ensures shown { (clusters : List (List ℕ)) → Represents (known_of pass.old.texts) numbers.now clusters
         → OnOk result (output.new ≡ output.old ++ flat_map shown_with_space clusters) }
 {
     'showing: for i in 0..numbers.len() {
-        show_cluster(table, pass, numbers[i], output)?;
+        let len = spell(table, pass, numbers[i], buffer);
+        append_cluster(&buffer[..len], output)?;
     }
     Ok(())
 }
 
-/// Ends the line, where a space stands after the last cluster.
-fn end_line(output: &mut ByteList, had: usize) -> Result<(), Stop>
+/// Takes the last space off, where clusters were added after the first `had` bytes.
+fn drop_last_space(output: &mut ByteList, had: usize)
+    ensures { (start : List ℕ) (clusters : List (List ℕ)) → length start ≡ had
+        → output.old ≡ start ++ flat_map shown_with_space clusters → output.new ≡ start ++ shown clusters }
 {
-    if output.len() > had {
-        output.truncate(output.len() - 1);
+    if output.len() <= had {
+        return;
     }
+    output.truncate(output.len() - 1);
+}
+
+/// Ends the line of the clusters that were added after the first `had` bytes.
+fn end_line(output: &mut ByteList, had: usize) -> Result<(), Stop>
+    ensures { (start : List ℕ) (clusters : List (List ℕ)) → length start ≡ had
+        → output.old ≡ start ++ flat_map shown_with_space clusters
+        → Prints start output.new result (line_of (shown clusters)) }
+{
+    drop_last_space(output, had);
     output.append(b"\n")?;
     within_limit(output, had)
 }
@@ -171,11 +149,12 @@ pub(crate) fn show(
     let had = output.len();
     let len = string.len();
     let mut numbers = [0i32; PART];
+    let mut buffer = [0u32; CLUSTER_LIMIT];
     let mut at = 0u64;
     'showing: while at < len {
         let count = (len - at).min(PART as u64) as usize;
         string.copy_into(at, &mut numbers[..count]);
-        show_part(table, pass, &numbers[..count], output)?;
+        show_part(table, pass, &numbers[..count], &mut buffer, output)?;
         within_limit(output, had)?;
         at += count as u64;
     }
