@@ -2,8 +2,17 @@
 #![tactic(auto)]
 
 mod alone;
+mod answering;
+mod defining;
+mod evaluation;
 mod gate;
+mod hexadecimal;
+mod naming;
 mod output;
+mod printing;
+mod put;
+mod spelling;
+mod stop;
 
 pub use alone::run_alone;
 pub use gate::{Gate, OpenGate};

@@ -1,0 +1,9 @@
+pub mod Members
+pub mod InUse
+pub mod Narrow
+pub mod Strings
+pub mod Defined
+pub mod Parts
+pub mod Hexadecimals
+pub mod Joined
+pub mod Tables
