@@ -1,7 +1,7 @@
 -- What was read for the first loads of a script, and how reading goes on.
 use Rattle.std.proofs.Common.{◌≡◌, ℕ, zero, suc, ◌+◌, ◌<◌, ◌≤◌, Bool, true, false, ◌||◌, nat_lt, List, [], ◌∷◌, ◌++◌, length, drop, All, Option, Some, None, IfSome, MatchOption, slice_get, refl, sym, ap, ◌∙◌, subst, append_assoc, arith}
 use Rattle.std.proofs.lemmas.Bool.{ltb-false}
-use Rattle.std.proofs.lemmas.List.{append-nil}
+use Rattle.std.proofs.lemmas.List.{append-nil, drop_all}
 use Rattle.std.proofs.lemmas.List.Elements.{All-nil, All-cons}
 use Rattle.nfg_io.specs.Files.{Contents}
 use Rattle.nfg_script.specs.declared.command.Command.{Command}
@@ -38,57 +38,70 @@ pub within-limits : (earlier count : ℕ) → is_over_limit earlier count ≡ fa
     → (count ≤ file_limit) × (earlier + count ≤ files_limit)
 within-limits earlier count e = both_within earlier count _ _ refl refl e
 
--- one more file is read whole
-pub LoadsGoOn-bytes : (contents : Option Contents) (paths : List (List ℕ)) (reads grown : List FileRead) (path : List ℕ) (left : List (List ℕ)) (earlier : ℕ) (bytes : List ℕ)
-    → LoadsGoOn contents paths reads (path ∷ left) earlier
-    → AreLoadsRead contents earlier (path ∷ []) (Bytes bytes ∷ []) → grown ≡ reads ++ Bytes bytes ∷ []
-    → LoadsGoOn contents paths grown left (earlier + length bytes)
-LoadsGoOn-bytes contents paths reads grown path left earlier bytes go one e = record {
-  within = (within-limits earlier (length bytes) one.1).1;
-  read = λ more are.
-      let whole : AreLoadsRead contents 0 paths (reads ++ Bytes bytes ∷ more) = go.read (Bytes bytes ∷ more) (one.0, one.1, are) in
-      subst (AreLoadsRead contents 0 paths) (sym (ap (λ v. v ++ more) e ∙ append_assoc reads (Bytes bytes ∷ []) more)) whole;
-  failed = λ more. ap (λ v. failed_load paths (v ++ more)) e ∙ ap (failed_load paths) (append_assoc reads (Bytes bytes ∷ []) more)
-      ∙ go.failed (Bytes bytes ∷ more);
-}
+-- the next path to read, and what was read for it
+pub record IsNextRead (contents : Option Contents) (left : List (List ℕ)) (earlier : ℕ) (path : List ℕ) (rest : List (List ℕ)) (read : FileRead) : Type 0 where
+  pub next : left ≡ path ∷ rest
+  pub here : Option Contents
+  pub unchanged : here ≡ contents
+  pub one : AreLoadsRead here earlier (path ∷ []) (read ∷ [])
 
--- the last file is too long
-pub LoadsGoOn-too_long : (contents : Option Contents) (paths : List (List ℕ)) (reads grown : List FileRead) (path : List ℕ) (left : List (List ℕ)) (earlier : ℕ)
-    → LoadsGoOn contents paths reads (path ∷ left) earlier
-    → AreLoadsRead contents earlier (path ∷ []) (TooLong ∷ []) → grown ≡ reads ++ TooLong ∷ []
-    → AreLoadsRead contents 0 paths grown
-LoadsGoOn-too_long contents paths reads grown path left earlier go one e =
-    subst (AreLoadsRead contents 0 paths) (sym e) (go.read (TooLong ∷ []) one)
+-- one more file is read whole
+pub LoadsGoOn-bytes : (contents : Option Contents) (paths : List (List ℕ)) (reads grown : List FileRead) (left : List (List ℕ)) (earlier : ℕ)
+    (path : List ℕ) (rest : List (List ℕ)) (read : FileRead) (bytes : List ℕ)
+    → LoadsGoOn contents paths reads left earlier → IsNextRead contents left earlier path rest read
+    → read ≡ Bytes bytes → grown ≡ reads ++ Bytes bytes ∷ []
+    → LoadsGoOn contents paths grown rest (earlier + length bytes)
+LoadsGoOn-bytes contents paths reads grown left earlier path rest read bytes go is same e =
+    let go_on : LoadsGoOn contents paths reads (path ∷ rest) earlier = subst (λ v. LoadsGoOn contents paths reads v earlier) is.next go in
+    let here : AreLoadsRead contents earlier (path ∷ []) (read ∷ []) = subst (λ v. AreLoadsRead v earlier (path ∷ []) (read ∷ [])) is.unchanged is.one in
+    let one : AreLoadsRead contents earlier (path ∷ []) (Bytes bytes ∷ []) = subst (λ v. AreLoadsRead contents earlier (path ∷ []) (v ∷ [])) same here in
+    record {
+      within = (within-limits earlier (length bytes) one.1).1;
+      read = λ more are.
+          let whole : AreLoadsRead contents 0 paths (reads ++ Bytes bytes ∷ more) = go_on.read (Bytes bytes ∷ more) (one.0, one.1, are) in
+          subst (AreLoadsRead contents 0 paths) (sym (ap (λ v. v ++ more) e ∙ append_assoc reads (Bytes bytes ∷ []) more)) whole;
+      failed = λ more. ap (λ v. failed_load paths (v ++ more)) e ∙ ap (failed_load paths) (append_assoc reads (Bytes bytes ∷ []) more)
+          ∙ go_on.failed (Bytes bytes ∷ more);
+    }
 
 failed_load-none : (paths : List (List ℕ)) → failed_load paths [] ≡ None
 failed_load-none [] = refl
 failed_load-none (path ∷ paths) = refl
 
--- so none of them failed
-pub none_failed-too_long : (contents : Option Contents) (paths : List (List ℕ)) (reads grown : List FileRead) (path : List ℕ) (left : List (List ℕ)) (earlier : ℕ)
-    → LoadsGoOn contents paths reads (path ∷ left) earlier → grown ≡ reads ++ TooLong ∷ []
-    → failed_load paths grown ≡ None
-none_failed-too_long contents paths reads grown path left earlier go e =
-    ap (failed_load paths) e ∙ go.failed (TooLong ∷ []) ∙ failed_load-none left
+-- the last file is too long, and none failed
+pub LoadsGoOn-too_long : (contents : Option Contents) (paths : List (List ℕ)) (reads grown : List FileRead) (left : List (List ℕ)) (earlier : ℕ)
+    (path : List ℕ) (rest : List (List ℕ)) (read : FileRead)
+    → LoadsGoOn contents paths reads left earlier → IsNextRead contents left earlier path rest read
+    → read ≡ TooLong → grown ≡ reads ++ TooLong ∷ []
+    → AreLoadsRead contents 0 paths grown × (failed_load paths grown ≡ None)
+LoadsGoOn-too_long contents paths reads grown left earlier path rest read go is same e =
+    let go_on : LoadsGoOn contents paths reads (path ∷ rest) earlier = subst (λ v. LoadsGoOn contents paths reads v earlier) is.next go in
+    let here : AreLoadsRead contents earlier (path ∷ []) (read ∷ []) = subst (λ v. AreLoadsRead v earlier (path ∷ []) (read ∷ [])) is.unchanged is.one in
+    let one : AreLoadsRead contents earlier (path ∷ []) (TooLong ∷ []) = subst (λ v. AreLoadsRead contents earlier (path ∷ []) (v ∷ [])) same here in (
+      subst (AreLoadsRead contents 0 paths) (sym e) (go_on.read (TooLong ∷ []) one),
+      ap (failed_load paths) e ∙ go_on.failed (TooLong ∷ []) ∙ failed_load-none rest,
+    )
 
 -- the last file failed
-pub LoadsGoOn-failed : (contents : Option Contents) (paths : List (List ℕ)) (reads grown : List FileRead) (path : List ℕ) (left : List (List ℕ)) (earlier : ℕ)
-    → LoadsGoOn contents paths reads (path ∷ left) earlier → grown ≡ reads ++ Failed ∷ []
+pub LoadsGoOn-failed : (contents : Option Contents) (paths : List (List ℕ)) (reads grown : List FileRead) (left : List (List ℕ)) (earlier : ℕ)
+    (path : List ℕ) (rest : List (List ℕ))
+    → LoadsGoOn contents paths reads left earlier → left ≡ path ∷ rest → grown ≡ reads ++ Failed ∷ []
     → AreLoadsRead contents 0 paths grown × (failed_load paths grown ≡ Some path)
-LoadsGoOn-failed contents paths reads grown path left earlier go e = (
-  subst (AreLoadsRead contents 0 paths) (sym e) (go.read (Failed ∷ []) refl),
-  ap (failed_load paths) e ∙ go.failed (Failed ∷ [])
-)
+LoadsGoOn-failed contents paths reads grown left earlier path rest go next e =
+    let go_on : LoadsGoOn contents paths reads (path ∷ rest) earlier = subst (λ v. LoadsGoOn contents paths reads v earlier) next go in (
+      subst (AreLoadsRead contents 0 paths) (sym e) (go_on.read (Failed ∷ []) refl),
+      ap (failed_load paths) e ∙ go_on.failed (Failed ∷ []),
+    )
 
--- all are read
-pub LoadsGoOn-last : (contents : Option Contents) (paths : List (List ℕ)) (reads : List FileRead) (left : List (List ℕ)) (earlier : ℕ)
-    → LoadsGoOn contents paths reads left earlier → left ≡ []
-    → AreLoadsRead contents 0 paths reads × (failed_load paths reads ≡ None)
-LoadsGoOn-last contents paths reads left earlier go e =
-    let none : AreLoadsRead contents earlier left [] = rw e refl in
-    (
-      subst (AreLoadsRead contents 0 paths) (append-nil reads) (go.read [] none),
-      ap (failed_load paths) (sym (append-nil reads)) ∙ go.failed [] ∙ failed_load-none left,
+-- all commands are done
+pub LoadsGoOn-last : (contents : Option Contents) (script : List NumberedCommand) (reads : List FileRead) (k earlier : ℕ)
+    → LoadsGoOn contents (load_paths script) reads (load_paths (drop k script)) earlier → length script ≤ k
+    → AreLoadsRead contents 0 (load_paths script) reads × (failed_load (load_paths script) reads ≡ None)
+LoadsGoOn-last contents script reads k earlier go past =
+    let e : load_paths (drop k script) ≡ [] = ap load_paths (drop_all k script past) in
+    let none : AreLoadsRead contents earlier (load_paths (drop k script)) [] = rw e refl in (
+      subst (AreLoadsRead contents 0 (load_paths script)) (append-nil reads) (go.read [] none),
+      ap (failed_load (load_paths script)) (sym (append-nil reads)) ∙ go.failed [] ∙ failed_load-none (load_paths (drop k script)),
     )
 
 none_within : AreWithinLimit []
@@ -127,3 +140,4 @@ load_paths-at_other (first ∷ script) zero command inside here other =
 load_paths-at_other (first ∷ script) (suc k) command inside here other =
     let within : k < length script = omega (arith, inside) in
     load_paths-at_other script k command within here other
+

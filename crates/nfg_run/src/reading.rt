@@ -2,7 +2,6 @@
 ghost use Rattle.std.specs.Prelude.{◌≡◌, ◌≤◌, ◌<◌, ◌+◌, length, take, drop, IfOk, IfSome, MatchOption, IsErrOf, [], ◌∷◌};
 ghost use Rattle.nfg_io.specs.Files.{HasFailedAt};
 ghost use Rattle.nfg_script.specs.Script.{load_paths, is_load as is_load_command};
-ghost use Rattle.nfg_work.specs.Evaluation.{AreWithinLimit};
 ghost use Rattle.nfg_run.specs.Headline.{HasFile, AreLoadsRead, failed_load, files_limit};
 ghost use Rattle.nfg_run.specs.declared.reading.ReadError.{ReadError};
 ghost use Rattle.nfg_run.specs.declared.reading.ReadError.TheVariants.{Failed as ReadFailed, OutOfMemory as NoMemory};
@@ -136,7 +135,6 @@ pub(crate) fn read_loads<F: Files>(
         (λ reads. AreLoadsRead (F.state files.old).contents 0 (load_paths script.now) reads.items) }
     ensures failed { IfOk result (λ reads. IfSome (failed_load (load_paths script.now) reads.items)
         (HasFailedAt (F.state files.old) (F.state files.new))) }
-    ensures within { IfOk result (λ reads. AreWithinLimit reads.items) }
     ensures never_falls { (F.state files.old).faults ≤ (F.state files.new).faults }
 {
     let mut reads = Vec::new(alloc);
