@@ -53,15 +53,6 @@ impl Script {
     {
         self.lines[k].command
     }
-
-    /// The path of the load at `k`, counted from 0.
-    pub fn path(&self, k: usize) -> &str
-        requires inside { k < length self.now }
-        requires load { IfSome (slice_get self.now k) (λ numbered. is_load numbered.command ≡ true) }
-        ensures { IfSome (slice_get self.now k) (λ numbered. result.now ≡ numbered.path) }
-    {
-        self.lines[k].path.as_str()
-    }
 }
 
 /// The commands of a script.
