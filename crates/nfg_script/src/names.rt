@@ -1,5 +1,5 @@
 //! The names that the lines so far define.
-ghost use Rattle.std.specs.Prelude.{◌≡◌, ◌<◌, ◌^◌, ◌++◌, ◌∷◌, [], length, OnOk};
+ghost use Rattle.std.specs.Prelude.{◌≡◌, ◌<◌, ◌^◌, ◌++◌, ◌∷◌, [], length, OnOk, None};
 ghost use Rattle.nfg_script.specs.Words.{place_of, new_name, known_name};
 
 use crate::Reason;
@@ -78,7 +78,8 @@ impl<'a> Names<'a> {
 #[tactic(auto, unfolding(crate::specs::Words::new_name))]
 pub(crate) fn read_new_name(names: &Names, word: &str) -> Result<u32, Reason>
     requires { length names.now < 2 ^ 32 }
-    ensures { result ≡ new_name names.now word.now }
+    ensures number { result ≡ new_name names.now word.now }
+    ensures new { OnOk result (place_of names.now word.now ≡ None) }
 {
     if !is_name(word) {
         return Err(Reason::BadName);
