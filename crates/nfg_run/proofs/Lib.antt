@@ -1,3 +1,4 @@
+mod Examples
 pub mod Answered
 pub mod Fronts
 pub mod Loads

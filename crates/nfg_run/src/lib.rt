@@ -10,6 +10,8 @@ mod answer;
 mod command_line;
 mod reading;
 mod status;
+#[cfg(test)]
+mod tests;
 mod words;
 mod writing;
 

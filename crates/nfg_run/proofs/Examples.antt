@@ -1,0 +1,169 @@
+-- Worked rows, each computed from the definitions.
+use Rattle.std.proofs.Common.{◌≡◌, ℕ, List, [], ◌∷◌, ◌++◌, Bool, true, false, Some, None, Ok, Err, refl, sym, subst, codes}
+use Rattle.std.specs.Str.{is_utf8, chars}
+use Rattle.std.specs.Str.Lossy.{utf8_valid_len}
+use Rattle.std.specs.Char.{encode_utf8}
+use Rattle.std.specs.Fmt.{digits}
+use Rattle.nfg_text.specs.Graphemes.{graphemes_of}
+use Rattle.nfg_decode.specs.declared.encoding.Encoding.TheVariants.{Utf8, Latin1}
+use Rattle.nfg_decode.specs.Utf8.{decode_utf8}
+use Rattle.nfg_decode.specs.Encoding.{decode}
+use Rattle.nfg_script.specs.declared.command.Command.{Command}
+use Rattle.nfg_script.specs.declared.command.Command.TheVariants.{Load, Text, Sub, Len, Show, Shape, Put}
+use Rattle.nfg_script.specs.declared.error.Reason.TheVariants.{BadCommand}
+use Rattle.nfg_script.specs.declared.error.ScriptError.TheVariants.{TooLong as ScriptTooLong, Line}
+use Rattle.nfg_script.specs.Script.{NumberedCommand}
+use Rattle.nfg_script.specs.Grammar.{parse}
+use Rattle.nfg_work.specs.declared.output.Cause.TheVariants.{CannotRead, FileTooLong, Malformed, OutOfRange, NotEncodable, AllTooLong, ClusterTooLong, TableFull, OutputTooLong}
+use Rattle.nfg_work.specs.declared.output.FileRead.{FileRead}
+use Rattle.nfg_work.specs.declared.output.FileRead.TheVariants.{Bytes, TooLong, Failed}
+use Rattle.nfg_work.specs.declared.output.Output.{Output}
+use Rattle.nfg_work.specs.Evaluation.{evaluate, evaluate_from, define_new, first_state}
+use Rattle.nfg_run.specs.declared.answer.Answer.{Answer}
+use Rattle.nfg_run.specs.declared.status.Status.TheVariants.{Done, Refused, Bad, ReadFault}
+use Rattle.nfg_run.specs.CommandLine.{script_path, usage_text, line_feed}
+use Rattle.nfg_run.specs.Answer.{answer, answer_script, answer_output, cause_text}
+use Rattle.nfg_run.specs.Headline.{AreLoadsRead, failed_load, failed_path, is_over_limit}
+
+-- The words.
+
+a_path : script_path (codes "run" ∷ codes "s" ∷ []) ≡ Some (codes "s")
+a_path = refl
+
+a_hyphen_is_a_path : script_path (codes "run" ∷ codes "-" ∷ []) ≡ Some (codes "-")
+a_hyphen_is_a_path = refl
+
+no_path : script_path (codes "run" ∷ []) ≡ None
+no_path = refl
+
+an_option_is_no_path : script_path (codes "run" ∷ codes "-h" ∷ []) ≡ None
+an_option_is_no_path = refl
+
+one_word_too_many : script_path (codes "run" ∷ codes "s" ∷ codes "t" ∷ []) ≡ None
+one_word_too_many = refl
+
+another_command : script_path (codes "gen" ∷ codes "s" ∷ []) ≡ None
+another_command = refl
+
+-- The limits of files.
+
+a_longest_file : is_over_limit 0 67108864 ≡ false
+a_longest_file = refl
+
+a_file_too_long : is_over_limit 0 67108865 ≡ true
+a_file_too_long = refl
+
+all_files_at_their_limit : is_over_limit 201326592 67108864 ≡ false
+all_files_at_their_limit = refl
+
+all_files_too_long : is_over_limit 201326593 67108864 ≡ true
+all_files_too_long = refl
+
+an_empty_file_after_them : is_over_limit 268435456 0 ≡ false
+an_empty_file_after_them = refl
+
+-- What is read.
+
+-- two paths
+abbrev f_and_g : List (List ℕ)
+f_and_g = codes "f" ∷ codes "g" ∷ []
+
+no_more_after_a_failure : AreLoadsRead None 0 f_and_g (Failed ∷ [])
+no_more_after_a_failure = refl
+
+one_file_and_a_failure : AreLoadsRead None 0 f_and_g (Bytes (0x61 ∷ []) ∷ Failed ∷ [])
+one_file_and_a_failure = (tt, refl, refl)
+
+an_entry_is_missing : AreLoadsRead None 0 f_and_g (Bytes (0x61 ∷ []) ∷ []) → ⊥
+an_entry_is_missing are = are.2
+
+-- Causes.
+
+tells_the_byte : cause_text (Malformed 1) ≡ codes "malformed at byte 1"
+unfolding digits
+tells_the_byte = refl
+
+tells_the_grapheme : cause_text (NotEncodable 12) ≡ codes "not encodable at grapheme 12"
+unfolding digits
+tells_the_grapheme = refl
+
+tells_the_cluster : cause_text (ClusterTooLong 0) ≡ codes "cluster too long at grapheme 0"
+unfolding digits
+tells_the_cluster = refl
+
+-- The answer to a script.
+
+abbrev numbered : (line : ℕ) → Command → NumberedCommand
+numbered line command = record { line = line; command = command; path = []; codes = [] }
+
+abbrev line_of : List ℕ → List ℕ
+line_of text = text ++ line_feed ∷ []
+
+-- `load a utf8 f`
+abbrev one_load : List NumberedCommand
+one_load = record { line = 1; command = Load 0 Utf8; path = codes "f"; codes = [] } ∷ []
+
+prints_nothing : answer_script (Ok []) [] ≡ record { status = Done; bytes = [] }
+unfolding evaluate
+prints_nothing = refl
+
+names_the_unread_file : answer_script (Ok one_load) (Failed ∷ []) ≡ record { status = ReadFault; bytes = line_of (codes "line 1: cannot read") }
+unfolding evaluate digits
+names_the_unread_file = refl
+
+names_the_long_file : answer_script (Ok one_load) (TooLong ∷ []) ≡ record { status = Refused; bytes = line_of (codes "line 1: file too long") }
+unfolding evaluate digits
+names_the_long_file = refl
+
+names_the_malformed_byte : answer_script (Ok one_load) (Bytes (0x61 ∷ 0xE2 ∷ 0x82 ∷ []) ∷ [])
+    ≡ record { status = Refused; bytes = line_of (codes "line 1: malformed at byte 1") }
+unfolding evaluate digits decode decode_utf8 utf8_valid_len is_utf8 chars encode_utf8
+names_the_malformed_byte = refl
+
+-- `load a utf8 f`, `len a`, `show a`
+abbrev three_commands : List NumberedCommand
+three_commands = one_load ++ numbered 2 (Len 0) ∷ numbered 3 (Show 0) ∷ []
+
+-- what they give where the file has six bytes and these clusters
+abbrev of_clusters : List (List ℕ) → Answer
+of_clusters clusters =
+    let output : Output = elim (define_new 262144 (first_state []) 6 clusters) [
+      | Ok next ↦ evaluate_from 262144 next (numbered 2 (Len 0) ∷ numbered 3 (Show 0) ∷ [])
+      | Err cause ↦ record { bytes = []; refused = Some (record { line = 1; cause = cause }) }
+    ] in answer_output output.bytes output.refused
+
+-- `e`, U+0301, CR LF, `q`
+abbrev accent : List ℕ
+accent = 0x65 ∷ 0xCC ∷ 0x81 ∷ 0x0D ∷ 0x0A ∷ 0x71 ∷ []
+
+prints_length_and_clusters : graphemes_of (0x65 ∷ 0x301 ∷ 0x0D ∷ 0x0A ∷ 0x71 ∷ []) ≡ (0xE9 ∷ []) ∷ (0x0D ∷ 0x0A ∷ []) ∷ (0x71 ∷ []) ∷ []
+    → answer_script (Ok three_commands) (Bytes accent ∷ []) ≡ record { status = Done; bytes = line_of (codes "3") ++ line_of (codes "E9 D+A 71") }
+unfolding evaluate digits decode decode_utf8 utf8_valid_len is_utf8 chars encode_utf8
+prints_length_and_clusters clusters =
+    let P : List (List ℕ) → Type 0 = λ v. of_clusters v ≡ record { status = Done; bytes = line_of (codes "3") ++ line_of (codes "E9 D+A 71") } in
+    subst P (sym clusters) refl
+
+refuses_the_script : answer_script (Err (Line 1 BadCommand)) [] ≡ record { status = Bad; bytes = line_of (codes "script: bad") }
+refuses_the_script = refl
+
+-- The answer.
+
+abbrev run_s : List (List ℕ)
+run_s = codes "run" ∷ codes "s" ∷ []
+
+tells_the_usage : answer (codes "run" ∷ []) None [] ≡ record { status = Bad; bytes = usage_text }
+tells_the_usage = refl
+
+cannot_read_the_script : answer run_s None [] ≡ record { status = ReadFault; bytes = line_of (codes "script: cannot read") }
+cannot_read_the_script = refl
+
+-- The path that a fault names.
+
+names_the_script : failed_path (script_path run_s) None [] ≡ Some (codes "s")
+names_the_script = refl
+
+names_the_file : failed_load f_and_g (Bytes (0x61 ∷ []) ∷ Failed ∷ []) ≡ Some (codes "g")
+names_the_file = refl
+
+names_no_path : failed_load f_and_g (Bytes (0x61 ∷ []) ∷ TooLong ∷ []) ≡ None
+names_no_path = refl
