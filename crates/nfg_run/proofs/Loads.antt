@@ -140,4 +140,3 @@ load_paths-at_other (first ∷ script) zero command inside here other =
 load_paths-at_other (first ∷ script) (suc k) command inside here other =
     let within : k < length script = omega (arith, inside) in
     load_paths-at_other script k command within here other
-

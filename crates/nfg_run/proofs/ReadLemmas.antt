@@ -69,9 +69,12 @@ pub HasFile-too_long : (contents : Option Contents) (path bytes : List ℕ) (ear
     → HasFile contents path (λ file. bytes ≡ take (limit + 1) file) → limit < length bytes
     → HasFile contents path (λ file. is_over_limit earlier (length file) ≡ true)
 HasFile-too_long None path bytes earlier limit fit is has more = tt
-HasFile-too_long (Some bytes_of) path bytes earlier limit fit is has more =
-    (has.0, has.1, over-limit earlier (length has.0) fit
-    (omega (arith, is, more, ap length has.2, length-take (limit + 1) has.0)))
+HasFile-too_long (Some bytes_of) path bytes earlier limit fit is has more = (
+  has.0,
+  has.1,
+  over-limit earlier (length has.0) fit
+      (omega (arith, is, more, ap length has.2, length-take (limit + 1) has.0)),
+)
 
 take-whole : (bytes file : List ℕ) (n : ℕ) → bytes ≡ take (n + 1) file → length bytes ≤ n → bytes ≡ file
 take-whole bytes file n e le =

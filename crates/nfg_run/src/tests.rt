@@ -197,9 +197,7 @@ fn put_writes_the_bytes_and_nothing_else(rt: HostRuntime) -> Result<(), Fail> {
     let script = b"text a E9 D A\nput a utf8\nput a utf16\nput a latin1\n";
     let (status, taken) = outcome(&rt, rt.alloc(), over(script, b""), SOUND)?;
     assert!(rt; status == Status::Done);
-    assert!(rt;
-        taken.as_slice() == b"\xc3\xa9\r\n\xfe\xff\x00\xe9\x00\r\x00\n\xe9\r\n".as_slice()
-    );
+    assert!(rt; taken.as_slice() == b"\xc3\xa9\r\n\xfe\xff\x00\xe9\x00\r\x00\n\xe9\r\n".as_slice());
     Ok(())
 }
 
@@ -275,9 +273,7 @@ fn a_cluster_has_at_most_1024_code_points(rt: HostRuntime) -> Result<(), Fail> {
     let found = over(script.as_slice(), b"");
     let (status, taken) = outcome(&rt, rt.alloc(), found, SOUND)?;
     assert!(rt; status == Status::Refused);
-    assert!(rt;
-        taken.as_slice() == b"1\nline 3: cluster too long at grapheme 0\n".as_slice()
-    );
+    assert!(rt; taken.as_slice() == b"1\nline 3: cluster too long at grapheme 0\n".as_slice());
     Ok(())
 }
 

@@ -10,6 +10,8 @@ returns-then-len-limit-clause-read g c =
 pub returns-else-len-limit-clause-read : goal.returns-else-len-limit-clause-read
 returns-else-len-limit-clause-read g c =
     let le : length c.in-Ok.bytes ≤ c.min-limit.result = search rules in
-    let within : length c.in-Ok.bytes ≤ most_after c.args.earlier = rw (c.min-limit.ensures) at le in
-    (HasFile-whole _ _ c.in-Ok.bytes c.min-limit.result c.in-Ok.ensures.bytes le,
-    within-limit c.args.earlier (length c.in-Ok.bytes) c.requires within, refl)
+    let within : length c.in-Ok.bytes ≤ most_after c.args.earlier = rw (c.min-limit.ensures) at le in (
+      HasFile-whole _ _ c.in-Ok.bytes c.min-limit.result c.in-Ok.ensures.bytes le,
+      within-limit c.args.earlier (length c.in-Ok.bytes) c.requires within,
+      refl,
+    )
