@@ -1,5 +1,5 @@
 -- Code points that are read one at a time.
-use Rattle.std.proofs.Common.{◌≡◌, ℕ, Bool, true, false, ◌&&◌, List, [], ◌∷◌, ◌++◌, Result, Ok, Err, refl, sym, ap, ◌∙◌, arith, length, ◌<◌, ◌+◌, get_or, drop, append_assoc, append-nil, cond, nat_le, subst}
+use Rattle.std.proofs.Common.{◌≡◌, ℕ, Bool, true, false, ◌&&◌, List, [], ◌∷◌, ◌++◌, Result, Ok, Err, refl, sym, ap, length, append_assoc, append-nil, cond, nat_le, subst}
 use Rattle.std.specs.Str.{all_scalars}
 use Rattle.nfg_text.specs.Text.{IsText}
 use Rattle.nfg_script.specs.declared.error.Reason.{Reason}

@@ -1,5 +1,5 @@
 -- What the lines of a script give, a line at a time.
-use Rattle.std.proofs.Common.{◌≡◌, ◌≢◌, ℕ, suc, ◌+◌, ◌<◌, ◌≤◌, Bool, true, false, not, nat_lt, List, [], ◌∷◌, ◌==◌, length, map, Result, Ok, Err, IfOk, IfErr, refl, sym, ap, subst, ◌∙◌, arith, add-one}
+use Rattle.std.proofs.Common.{◌≡◌, ◌≢◌, ℕ, suc, ◌+◌, ◌≤◌, true, false, nat_lt, List, [], ◌∷◌, ◌==◌, length, map, Result, Ok, Err, IfOk, IfErr, refl, sym, ap, arith, add-one}
 use Rattle.std.specs.List.{slice_split}
 use Rattle.std.specs.Str.{is_utf8, IsUtf8}
 use Rattle.std.specs.Str.Lines.{strip_carriage_return}
@@ -9,7 +9,7 @@ use Rattle.std.proofs.lemmas.Str.{IsUtf8-from_is_utf8, is_utf8-from_IsUtf8}
 use Rattle.std.proofs.lemmas.Bool.{false_from_ne_true}
 use Rattle.std.proofs.lemmas.Bool.Decides.{nat_tests}
 use Rattle.nfg_script.specs.declared.error.ScriptError.{ScriptError}
-use Rattle.nfg_script.specs.declared.error.ScriptError.TheVariants.{TooLong, Malformed, OutOfMemory as NoMemory}
+use Rattle.nfg_script.specs.declared.error.ScriptError.TheVariants.{Malformed, OutOfMemory as NoMemory}
 use Rattle.nfg_script.specs.Script.{NumberedCommand}
 use Rattle.nfg_script.specs.Words.{◌>>=◌, words_of}
 use Rattle.nfg_script.specs.Answer.{so_far, Answers}

@@ -1,5 +1,5 @@
 -- How many loads a script has, as commands come.
-use Rattle.std.proofs.Common.{◌≡◌, ℕ, suc, ◌+◌, ◌≤◌, Bool, true, false, cond, List, [], ◌∷◌, ◌++◌, length, refl, ap, ◌∙◌, arith}
+use Rattle.std.proofs.Common.{◌≡◌, ℕ, suc, ◌+◌, ◌≤◌, Bool, true, false, cond, List, [], ◌∷◌, ◌++◌, length, refl, arith}
 use Rattle.nfg_script.specs.Script.{NumberedCommand, is_load, load_paths}
 
 -- one more command is at most one more load

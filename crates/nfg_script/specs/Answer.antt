@@ -1,5 +1,5 @@
 -- What the readers of a line answer (this project's own).
-use Rattle.std.specs.Prelude.{◌≡◌, ◌≢◌, ℕ, List, map, Option, Some, None, Result, Ok, Err, option_map, IfSome, string_bytes}
+use Rattle.std.specs.Prelude.{◌≡◌, ◌≢◌, ℕ, List, map, None, Result, Ok, Err, option_map, IfSome, string_bytes}
 use Rattle.std.specs.Borrow.{Bor}
 use Rattle.nfg_script.specs.declared.error.Reason.{Reason}
 use Rattle.nfg_script.specs.declared.error.ScriptError.{ScriptError}

@@ -17,3 +17,6 @@ pub use command::Command;
 pub use error::{Reason, ScriptError};
 pub use reading::parse;
 pub use script::Script;
+
+#[cfg(test)]
+mod tests;

@@ -1,8 +1,7 @@
-use Rattle.std.proofs.Common.{◌≡◌, ◌∙◌, ap, sym, ℕ, List, ◌∷◌, ◌+◌, ◌++◌, [], drop, length, Bor, Ok, Err, arith, rules}
+use Rattle.std.proofs.Common.{◌≡◌, ◌∙◌, ap, sym, ◌+◌, [], drop, Ok, Err, arith, rules}
 use Rattle.std.proofs.lemmas.List.{drop_all}
-use Rattle.nfg_text.specs.Text.{IsText}
 use Rattle.nfg_script.specs.Answer.{texts}
-use Rattle.nfg_script.specs.Words.{code_point_of, code_points_of}
+use Rattle.nfg_script.specs.Words.{code_points_of}
 use Rattle.nfg_script.proofs.CodePoints.{after_codes, after_codes-cons, after_codes-err, after_codes-end, code_points-text}
 use Rattle.nfg_script.proofs.Texts.{texts-drop}
 use Rattle.nfg_script.proofs.code_points.read_code_points.Goals as goal

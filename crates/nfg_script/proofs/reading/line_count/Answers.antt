@@ -1,4 +1,4 @@
-use Rattle.std.proofs.Common.{◌≡◌, ◌∙◌, ◌+◌, ◌==◌, false, true, ap, sym, cond, count_by, arith}
+use Rattle.std.proofs.Common.{◌≡◌, ◌==◌, false, true, sym, arith}
 use Rattle.std.proofs.lemmas.Bool.Decides.{nat_tests}
 use Rattle.nfg_script.proofs.Lines.{lines-none, lines-counted}
 use Rattle.nfg_script.proofs.reading.line_count.Goals as goal

@@ -1,4 +1,4 @@
-use Rattle.std.proofs.Common.{◌≡◌, ◌∙◌, [], Err, ap, sym, subst, arith}
+use Rattle.std.proofs.Common.{◌∙◌, [], Err, ap, sym, subst, arith}
 use Rattle.nfg_script.specs.declared.error.ScriptError.TheVariants.{Malformed}
 use Rattle.nfg_script.specs.Answer.{so_far, Answers}
 use Rattle.nfg_script.specs.Grammar.{commands_from, lines_of, parse}

@@ -1,11 +1,10 @@
-use Rattle.std.proofs.Common.{◌≡◌, ◌≢◌, ◌∙◌, ◌≤◌, ◌+◌, ◌∷◌, [], List, ℕ, Bor, Ok, Err, ap, sym, subst, drop, get_or, map, length, arith, rules}
+use Rattle.std.proofs.Common.{◌≡◌, ◌≢◌, ◌∙◌, ◌+◌, ◌∷◌, [], Err, ap, sym, drop, map, arith}
 use Rattle.std.specs.Str.Lines.{strip_carriage_return}
 use Rattle.std.proofs.lemmas.List.{drop_all}
 use Rattle.std.proofs.lemmas.Result.{err_from_is_err_and}
 use Rattle.nfg_script.specs.declared.error.ScriptError.TheVariants.{OutOfMemory as NoMemory}
-use Rattle.nfg_script.specs.Answer.{texts, so_far, Answers}
-use Rattle.nfg_script.specs.Words.{words_of}
-use Rattle.nfg_script.specs.Grammar.{commands_from, and_line}
+use Rattle.nfg_script.specs.Answer.{texts, so_far}
+use Rattle.nfg_script.specs.Grammar.{commands_from}
 use Rattle.nfg_script.proofs.LinesRead.{commands_from-next, commands_from-err, commands_from-end}
 use Rattle.nfg_script.proofs.Texts.{texts-drop}
 use Rattle.nfg_script.proofs.reading.read_lines.Goals as goal

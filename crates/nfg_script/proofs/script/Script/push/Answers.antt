@@ -1,7 +1,7 @@
-use Rattle.std.proofs.Common.{◌≡◌, ◌≤◌, ◌∙◌, ◌+◌, ◌++◌, ◌∷◌, [], cond, refl, ap, map, length, arith}
+use Rattle.std.proofs.Common.{◌≡◌, ◌≤◌, ◌∙◌, ◌++◌, ◌∷◌, [], refl, ap, map, length, arith}
 use Rattle.std.proofs.lemmas.List.{map-append, length-map, length-append}
 use Rattle.nfg_script.specs.Answer.{numbered_command}
-use Rattle.nfg_script.specs.Script.{load_paths, is_load}
+use Rattle.nfg_script.specs.Script.{is_load}
 use Rattle.nfg_script.proofs.Loads.{loads-push, loads-le, one_at_most}
 use Rattle.nfg_script.proofs.script.Script.push.Goals as goal
 
