@@ -2,18 +2,20 @@
 use Rattle.std.proofs.Common.{◌≡◌, ℕ, ◌≤◌, List, [], Option, Some, None, IfSome, Result, Ok, Err, IfOk, refl, arith}
 use Rattle.nfg_io.specs.Causes.{Rose}
 use Rattle.nfg_io.specs.Files.{FilesState, HasFailedAt}
+use Rattle.nfg_script.specs.declared.error.ScriptError.{ScriptError}
+use Rattle.nfg_script.specs.Script.{NumberedCommand, load_paths}
+use Rattle.nfg_script.specs.Grammar.{parse}
+use Rattle.nfg_work.specs.declared.output.FileRead.{FileRead}
 use Rattle.nfg_run.specs.declared.answer.Answer.{Answer}
-use Rattle.nfg_run.specs.declared.output.FileRead.{FileRead}
 use Rattle.nfg_run.specs.CommandLine.{script_path}
-use Rattle.nfg_run.specs.Script.{NumberedCommand, parse, load_paths}
 use Rattle.nfg_run.specs.Answer.{answer_script}
 use Rattle.nfg_run.specs.Headline.{IsAnswered, IsScriptRead, AreLoadsRead, failed_load}
 
 -- a script that is refused
-pub IsAnswered-refused : (words : List (List ℕ)) (path bytes : List ℕ) (before after : FilesState) (given : Answer)
-    → script_path words ≡ Some path → IsScriptRead before.contents path (Some bytes) → parse bytes ≡ None
-    → given ≡ answer_script None [] → IsAnswered words before after given
-IsAnswered-refused words path bytes before after given named read refused is = record {
+pub IsAnswered-refused : (words : List (List ℕ)) (path bytes : List ℕ) (before after : FilesState) (given : Answer) (refusal : ScriptError)
+    → script_path words ≡ Some path → IsScriptRead before.contents path (Some bytes) → parse bytes ≡ Err refusal
+    → given ≡ answer_script (Err refusal) [] → IsAnswered words before after given
+IsAnswered-refused words path bytes before after given refusal named read refused is = record {
   script = Some bytes;
   reads = [];
   are_read = rw (named, refused) (read, refl);
@@ -24,10 +26,10 @@ IsAnswered-refused words path bytes before after given named read refused is = r
 -- a script that is accepted
 pub IsAnswered-accepted : (words : List (List ℕ)) (path bytes : List ℕ) (before after : FilesState) (given : Answer)
     (script : List NumberedCommand) (reads : List FileRead)
-    → script_path words ≡ Some path → IsScriptRead before.contents path (Some bytes) → parse bytes ≡ Some script
-    → AreLoadsRead before.contents (load_paths script) reads
+    → script_path words ≡ Some path → IsScriptRead before.contents path (Some bytes) → parse bytes ≡ Ok script
+    → AreLoadsRead before.contents 0 (load_paths script) reads
     → IfSome (failed_load (load_paths script) reads) (HasFailedAt before after)
-    → given ≡ answer_script (Some script) reads → IsAnswered words before after given
+    → given ≡ answer_script (Ok script) reads → IsAnswered words before after given
 IsAnswered-accepted words path bytes before after given script reads named read accepted loads cause is = record {
   script = Some bytes;
   reads = reads;
@@ -52,3 +54,9 @@ HasFailedAt-earlier before between after (Some path) le failed = record {
 pub IfOk-map : {T E : Type 0} (P Q : T → Type 0) (r : Result T E) → ((x : T) → P x → Q x) → IfOk r P → IfOk r Q
 IfOk-map P Q (Ok x) f h = f x h
 IfOk-map P Q (Err e) f h = tt
+
+pub IfSome-none : {T : Type 0} (x : Option T) (P : T → Type 0) → x ≡ None → IfSome x P
+IfSome-none x P e = rw e tt
+
+pub IfSome-some : {T : Type 0} (x : Option T) (P : T → Type 0) (y : T) → x ≡ Some y → P y → IfSome x P
+IfSome-some x P y e holds = rw e holds

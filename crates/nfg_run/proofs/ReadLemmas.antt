@@ -1,9 +1,11 @@
 -- Bytes read by one read after another.
-use Rattle.std.proofs.Common.{◌≡◌, ℕ, ◌+◌, ◌<◌, ◌≤◌, List, ◌++◌, length, take, drop, Option, Some, None, IfSome, refl, sym, ap, ◌∙◌, arith, length-append, length-drop, length-take}
+use Rattle.std.proofs.Common.{◌≡◌, ℕ, ◌+◌, ◌-◌, ◌<◌, ◌≤◌, min, Bool, true, false, ◌||◌, nat_lt, List, ◌++◌, length, take, drop, Option, Some, None, IfSome, refl, sym, ap, ◌∙◌, arith, length-append, length-drop, length-take}
+use Rattle.std.proofs.lemmas.Bool.{ltb-false, le-ltb, lt-ltb}
 use Rattle.std.proofs.lemmas.Grind.{common_steps}
 use Rattle.std.proofs.lemmas.List.{take-append-le, length-take-le}
 use Rattle.nfg_io.specs.Files.{Contents, opened_bytes, ReadsAt}
-use Rattle.nfg_run.specs.Headline.{HasFile, file_limit}
+use Rattle.nfg_run.specs.Headline.{HasFile, is_over_limit, files_limit}
+use Rattle.nfg_work.specs.Evaluation.{file_limit}
 use Rattle.nfg_run.proofs.Fronts.{take-more}
 
 -- a front of the file has grown by what was read behind it
@@ -40,13 +42,39 @@ length-grown bytes into rest grown n within e =
     let front : take n (into ++ rest) ≡ take n into = rw take-append-le refl in
     ap length e ∙ omega (arith, length-append bytes (take n (into ++ rest)), ap length front, length-take-le n into within)
 
+-- the most bytes of a file after so many
+abbrev pub most_after : ℕ → ℕ
+most_after earlier = min file_limit (files_limit - earlier)
+
+over_one : (earlier count : ℕ) (a : Bool) → nat_lt file_limit count ≡ a → earlier ≤ files_limit → most_after earlier < count
+    → (a || nat_lt files_limit (earlier + count)) ≡ true
+over_one earlier count true one fit more = refl
+over_one earlier count false one fit more =
+    lt-ltb files_limit (earlier + count) (omega (arith, ltb-false file_limit count one, fit, more))
+
+-- more than the most bytes are over a limit
+pub over-limit : (earlier count : ℕ) → earlier ≤ files_limit → most_after earlier < count → is_over_limit earlier count ≡ true
+over-limit earlier count fit more = over_one earlier count _ refl fit more
+
+-- as many or fewer aren't
+pub within-limit : (earlier count : ℕ) → earlier ≤ files_limit → count ≤ most_after earlier → is_over_limit earlier count ≡ false
+within-limit earlier count fit le =
+    let one : nat_lt file_limit count ≡ false = le-ltb file_limit count (omega (arith, le)) in
+    let all : nat_lt files_limit (earlier + count) ≡ false = le-ltb files_limit (earlier + count) (omega (arith, fit, le)) in
+    rw (one, all) refl
+
 -- one byte past the limit shows that the file is too long
-pub HasFile-too_long : (contents : Option Contents) (path bytes : List ℕ)
-    → HasFile contents path (λ file. bytes ≡ take (file_limit + 1) file) → file_limit < length bytes
-    → HasFile contents path (λ file. file_limit < length file)
-HasFile-too_long None path bytes has more = tt
-HasFile-too_long (Some bytes_of) path bytes has more =
-    (has.0, has.1, omega (arith, ap length has.2, length-take (file_limit + 1) has.0))
+pub HasFile-too_long : (contents : Option Contents) (path bytes : List ℕ) (earlier limit : ℕ) → earlier ≤ files_limit
+    → limit ≡ most_after earlier
+    → HasFile contents path (λ file. bytes ≡ take (limit + 1) file) → limit < length bytes
+    → HasFile contents path (λ file. is_over_limit earlier (length file) ≡ true)
+HasFile-too_long None path bytes earlier limit fit is has more = tt
+HasFile-too_long (Some bytes_of) path bytes earlier limit fit is has more = (
+  has.0,
+  has.1,
+  over-limit earlier (length has.0) fit
+      (omega (arith, is, more, ap length has.2, length-take (limit + 1) has.0)),
+)
 
 take-whole : (bytes file : List ℕ) (n : ℕ) → bytes ≡ take (n + 1) file → length bytes ≤ n → bytes ≡ file
 take-whole bytes file n e le =
@@ -54,11 +82,8 @@ take-whole bytes file n e le =
     e ∙ grind (arith, common_steps)
 
 -- fewer bytes are the whole file
-pub HasFile-whole : (contents : Option Contents) (path bytes : List ℕ)
-    → HasFile contents path (λ file. bytes ≡ take (file_limit + 1) file) → length bytes ≤ file_limit
-    → HasFile contents path (λ file. (bytes ≡ file) × (length file ≤ file_limit))
-HasFile-whole None path bytes has le = tt
-HasFile-whole (Some bytes_of) path bytes has le =
-    let same : bytes ≡ has.0 = take-whole bytes has.0 file_limit has.2 le in
-    let within : length has.0 ≤ file_limit = omega (arith, ap length same) in
-    (has.0, has.1, (same, within))
+pub HasFile-whole : (contents : Option Contents) (path bytes : List ℕ) (limit : ℕ)
+    → HasFile contents path (λ file. bytes ≡ take (limit + 1) file) → length bytes ≤ limit
+    → HasFile contents path (λ file. bytes ≡ file)
+HasFile-whole None path bytes limit has le = tt
+HasFile-whole (Some bytes_of) path bytes limit has le = (has.0, has.1, take-whole bytes has.0 limit has.2 le)

@@ -1,16 +1,18 @@
 -- The answer of a run: the status and the bytes, from the words and what was read (this project's own).
-use Rattle.std.specs.Prelude.{ℕ, List, [], ◌∷◌, ◌++◌, Option, Some, None, codes}
+use Rattle.std.specs.Prelude.{ℕ, List, [], ◌∷◌, ◌++◌, Option, Some, None, Result, Ok, Err, codes}
 use Rattle.std.specs.Fmt.{decimal}
+use Rattle.nfg_script.specs.declared.error.ScriptError.{ScriptError}
+use Rattle.nfg_script.specs.Script.{NumberedCommand}
+use Rattle.nfg_script.specs.Grammar.{parse}
+use Rattle.nfg_work.specs.declared.output.Cause.{Cause}
+use Rattle.nfg_work.specs.declared.output.Cause.TheVariants.{CannotRead, FileTooLong, Malformed, OutOfRange, NotEncodable, AllTooLong, ClusterTooLong, TableFull, OutputTooLong}
+use Rattle.nfg_work.specs.declared.output.FileRead.{FileRead}
+use Rattle.nfg_work.specs.declared.output.RefusedLine.{RefusedLine}
+use Rattle.nfg_work.specs.Evaluation.{evaluate}
 use Rattle.nfg_run.specs.declared.answer.Answer.{Answer}
-use Rattle.nfg_run.specs.declared.output.Cause.{Cause}
-use Rattle.nfg_run.specs.declared.output.Cause.TheVariants.{CannotRead, NotYet}
-use Rattle.nfg_run.specs.declared.output.FileRead.{FileRead}
-use Rattle.nfg_run.specs.declared.output.RefusedLine.{RefusedLine}
 use Rattle.nfg_run.specs.declared.status.Status.{Status}
 use Rattle.nfg_run.specs.declared.status.Status.TheVariants.{Done, Refused, Bad, ReadFault}
 use Rattle.nfg_run.specs.CommandLine.{script_path, usage_text, line_feed}
-use Rattle.nfg_run.specs.Script.{NumberedCommand, parse}
-use Rattle.nfg_run.specs.Evaluation.{evaluate}
 
 -- the places of the table
 abbrev pub default_places : ℕ
@@ -18,11 +20,18 @@ default_places = 262144
 
 abbrev pub cause_text : Cause → List ℕ
 cause_text CannotRead = codes "cannot read"
-cause_text NotYet = codes "not yet"
+cause_text FileTooLong = codes "file too long"
+cause_text (Malformed at) = codes "malformed at byte " ++ decimal at
+cause_text OutOfRange = codes "out of range"
+cause_text (NotEncodable at) = codes "not encodable at grapheme " ++ decimal at
+cause_text AllTooLong = codes "all strings too long"
+cause_text (ClusterTooLong at) = codes "cluster too long at grapheme " ++ decimal at
+cause_text TableFull = codes "table full"
+cause_text OutputTooLong = codes "output too long"
 
 abbrev pub cause_status : Cause → Status
 cause_status CannotRead = ReadFault
-cause_status NotYet = Refused
+cause_status _ = Refused
 
 -- `line L: ` and the cause
 abbrev pub refused_text : RefusedLine → List ℕ
@@ -35,9 +44,9 @@ answer_output bytes None = record { status = Done; bytes = bytes }
 answer_output bytes (Some refused) =
     record { status = cause_status refused.cause; bytes = bytes ++ refused_text refused }
 
-abbrev pub answer_script : Option (List NumberedCommand) → List FileRead → Answer
-answer_script None reads = record { status = Bad; bytes = codes "script: bad" ++ line_feed ∷ [] }
-answer_script (Some script) reads =
+abbrev pub answer_script : Result (List NumberedCommand) ScriptError → List FileRead → Answer
+answer_script (Err refusal) reads = record { status = Bad; bytes = codes "script: bad" ++ line_feed ∷ [] }
+answer_script (Ok script) reads =
     let output = evaluate script reads default_places in answer_output output.bytes output.refused
 
 abbrev pub answer_bytes : Option (List ℕ) → List FileRead → Answer

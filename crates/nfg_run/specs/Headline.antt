@@ -1,19 +1,26 @@
 -- The headline: what a run has read, and that its answer to that was written (this project's own).
-use Rattle.std.specs.Prelude.{◌≡◌, ℕ, ◌+◌, ◌<◌, ◌≤◌, List, [], ◌∷◌, ◌++◌, length, take, Option, Some, None, IfSome}
+use Rattle.std.specs.Prelude.{◌≡◌, ℕ, ◌+◌, ◌<◌, Bool, true, false, ◌||◌, nat_lt, List, [], ◌∷◌, ◌++◌, length, take, Option, Some, None, IfSome, Result, Ok, Err}
 use Rattle.nfg_io.specs.Causes.{Rose}
 use Rattle.nfg_io.specs.Files.{FilesState, Contents, HasFailedAt}
 use Rattle.nfg_io.specs.Sink.{SinkState, Grew}
+use Rattle.nfg_script.specs.declared.error.ScriptError.{ScriptError}
+use Rattle.nfg_script.specs.Script.{NumberedCommand, load_paths}
+use Rattle.nfg_script.specs.Grammar.{parse, byte_limit}
+use Rattle.nfg_work.specs.declared.output.FileRead.{FileRead}
+use Rattle.nfg_work.specs.declared.output.FileRead.TheVariants.{Bytes, TooLong, Failed}
+use Rattle.nfg_work.specs.Evaluation.{file_limit}
 use Rattle.nfg_run.specs.declared.answer.Answer.{Answer}
-use Rattle.nfg_run.specs.declared.output.FileRead.{FileRead}
-use Rattle.nfg_run.specs.declared.output.FileRead.TheVariants.{Bytes, TooLong, Failed}
 use Rattle.nfg_run.specs.declared.status.Status.{Status}
 use Rattle.nfg_run.specs.CommandLine.{script_path}
-use Rattle.nfg_run.specs.Script.{NumberedCommand, parse, load_paths, script_limit}
 use Rattle.nfg_run.specs.Answer.{answer}
 
--- the most bytes of one file
-abbrev pub file_limit : ℕ
-file_limit = 65536
+-- the most bytes of all files of a script together
+abbrev pub files_limit : ℕ
+files_limit = 268435456
+
+-- a file of so many bytes is over the limit of one, or with the files before it over that of all
+abbrev pub is_over_limit : (earlier count : ℕ) → Bool
+is_over_limit earlier count = nat_lt file_limit count || nat_lt files_limit (earlier + count)
 
 -- the path is there and P holds of its bytes, where the files are told
 abbrev pub HasFile : Option Contents → List ℕ → (List ℕ → Type 0) → Type 0
@@ -23,23 +30,24 @@ HasFile contents path P =
 -- the script's bytes, cut where they show that it is too long
 abbrev pub IsScriptRead : Option Contents → List ℕ → Option (List ℕ) → Type 0
 IsScriptRead contents path None = Unit {0}
-IsScriptRead contents path (Some bytes) = HasFile contents path (λ file. bytes ≡ take (script_limit + 1) file)
+IsScriptRead contents path (Some bytes) = HasFile contents path (λ file. bytes ≡ take (byte_limit + 1) file)
 
--- one entry a load, in order, up to the first that failed or is too long
-abbrev pub AreLoadsRead : Option Contents → List (List ℕ) → List FileRead → Type 0
-AreLoadsRead contents [] reads = reads ≡ []
-AreLoadsRead contents (path ∷ paths) [] = ⊥
-AreLoadsRead contents (path ∷ paths) (Failed ∷ reads) = reads ≡ []
-AreLoadsRead contents (path ∷ paths) (TooLong ∷ reads) =
-    HasFile contents path (λ file. file_limit < length file) × (reads ≡ [])
-AreLoadsRead contents (path ∷ paths) (Bytes bytes ∷ reads) =
-    HasFile contents path (λ file. (bytes ≡ file) × (length file ≤ file_limit))
-    × AreLoadsRead contents paths reads
+-- One entry a load, in order, up to the first that failed or is too long. The files before them have
+-- `earlier` bytes together.
+abbrev pub AreLoadsRead : Option Contents → (earlier : ℕ) → List (List ℕ) → List FileRead → Type 0
+AreLoadsRead contents earlier [] reads = reads ≡ []
+AreLoadsRead contents earlier (path ∷ paths) [] = ⊥
+AreLoadsRead contents earlier (path ∷ paths) (Failed ∷ reads) = reads ≡ []
+AreLoadsRead contents earlier (path ∷ paths) (TooLong ∷ reads) =
+    HasFile contents path (λ file. is_over_limit earlier (length file) ≡ true) × (reads ≡ [])
+AreLoadsRead contents earlier (path ∷ paths) (Bytes bytes ∷ reads) =
+    HasFile contents path (λ file. bytes ≡ file) × (is_over_limit earlier (length bytes) ≡ false)
+    × AreLoadsRead contents (earlier + length bytes) paths reads
 
 -- the paths that a script loads, and none where it is refused or can't be read
-abbrev pub accepted_paths : Option (List NumberedCommand) → List (List ℕ)
-accepted_paths None = []
-accepted_paths (Some script) = load_paths script
+abbrev pub accepted_paths : Result (List NumberedCommand) ScriptError → List (List ℕ)
+accepted_paths (Err refusal) = []
+accepted_paths (Ok script) = load_paths script
 
 abbrev pub paths_of : Option (List ℕ) → List (List ℕ)
 paths_of None = []
@@ -49,7 +57,7 @@ paths_of (Some bytes) = accepted_paths (parse bytes)
 abbrev pub AreRead : Option Contents → Option (List ℕ) → Option (List ℕ) → List FileRead → Type 0
 AreRead contents None script reads = reads ≡ []
 AreRead contents (Some path) script reads =
-    IsScriptRead contents path script × AreLoadsRead contents (paths_of script) reads
+    IsScriptRead contents path script × AreLoadsRead contents 0 (paths_of script) reads
 
 -- the path of the load that failed
 abbrev pub failed_load : List (List ℕ) → List FileRead → Option (List ℕ)

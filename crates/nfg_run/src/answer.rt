@@ -1,20 +1,23 @@
 //! The answer to the words and to what the files give.
-ghost use Rattle.std.specs.Prelude.{◌≡◌, ◌≤◌, IfOk, IsNone, Some, List, ℕ};
+ghost use Rattle.std.specs.Prelude.{◌≡◌, ◌≤◌, IfOk, IsNone, Some, List, ℕ, string_bytes};
 ghost use Rattle.nfg_run.specs.CommandLine.{script_path as path_of};
 ghost use Rattle.nfg_run.specs.Answer.{answer_output, cause_text, cause_status, default_places};
 ghost use Rattle.nfg_run.specs.Headline.{IsAnswered};
 
 use crate::command_line::{USAGE, script_path};
-use crate::evaluation::evaluate;
-use crate::reading::{ReadError, read_loads, read_up_to};
-use crate::script::{SCRIPT_LIMIT, parse};
+use crate::reading::{Buffer, PIECE, ReadError, read_loads, read_up_to};
 use crate::{Cause, Output, RefusedLine, Status, Words};
 use nfg_io::Files;
+use nfg_script::{ScriptError, parse};
 use nfg_text::ByteList;
+use nfg_work::run_alone;
 use std::alloc::{AllocError, Global};
 
 /// The places of the table.
 const PLACES: u32 = 1 << 18;
+
+/// The most bytes of a script.
+const SCRIPT_LIMIT: usize = 1 << 20;
 
 /// The status of a run and the bytes that it writes.
 #[derive(Drop)]
@@ -44,18 +47,20 @@ fn answer_path<F: Files>(alloc: Global, files: &mut F, path: &str) -> Result<Ans
     ensures { IfOk result (λ given. (words : List (List ℕ)) → path_of words ≡ Some path.now
         → IsAnswered words (F.state files.old) (F.state files.new) given) }
 {
-    let bytes = match read_up_to(alloc, files, path, SCRIPT_LIMIT + 1) {
+    let mut buffer: Buffer = [0; PIECE];
+    let bytes = match read_up_to(alloc, files, &mut buffer, path, SCRIPT_LIMIT + 1) {
         Ok(bytes) => bytes,
         Err(ReadError::Failed) => {
             return text_answer(alloc, Status::ReadFault, "script: cannot read\n");
         }
         Err(ReadError::OutOfMemory) => return Err(AllocError),
     };
-    match parse(alloc, bytes.as_slice())? {
-        None => text_answer(alloc, Status::Bad, "script: bad\n"),
-        Some(script) => {
-            let reads = read_loads(alloc, files, &script)?;
-            let output = evaluate(alloc, &script, &reads, PLACES)?;
+    match parse(alloc, bytes.as_slice()) {
+        Err(ScriptError::OutOfMemory) => Err(AllocError),
+        Err(_) => text_answer(alloc, Status::Bad, "script: bad\n"),
+        Ok(script) => {
+            let reads = read_loads(alloc, files, &mut buffer, &script)?;
+            let output = run_alone(alloc, &script, reads.as_slice(), PLACES)?;
             answer_to_output(alloc, output)
         }
     }
@@ -72,7 +77,8 @@ fn answer_to_output(alloc: Global, output: Output) -> Result<Answer, AllocError>
             bytes,
         }),
         Some(RefusedLine { line, cause }) => {
-            let text = format!(in alloc; "line {line}: {}\n", text_of(cause))?;
+            let cause_text = text_of(alloc, cause)?;
+            let text = format!(in alloc; "line {line}: {}\n", cause_text.as_str())?;
             bytes.append(text.as_bytes())?;
             Ok(Answer {
                 status: status_of(cause),
@@ -90,20 +96,29 @@ fn text_answer(alloc: Global, status: Status, text: &str) -> Result<Answer, Allo
     Ok(Answer { status, bytes })
 }
 
-fn text_of(cause: Cause) -> &'static str
-    ensures { result.now ≡ cause_text cause }
+/// The text that tells a cause.
+fn text_of(alloc: Global, cause: Cause) -> Result<String, AllocError>
+    ensures { IfOk result (λ text. string_bytes text ≡ cause_text cause) }
 {
     match cause {
-        Cause::CannotRead => "cannot read",
-        Cause::NotYet => "not yet",
+        Cause::CannotRead => String::from_str(alloc, "cannot read"),
+        Cause::FileTooLong => String::from_str(alloc, "file too long"),
+        Cause::Malformed { at } => format!(in alloc; "malformed at byte {at}"),
+        Cause::OutOfRange => String::from_str(alloc, "out of range"),
+        Cause::NotEncodable { at } => format!(in alloc; "not encodable at grapheme {at}"),
+        Cause::AllTooLong => String::from_str(alloc, "all strings too long"),
+        Cause::ClusterTooLong { at } => format!(in alloc; "cluster too long at grapheme {at}"),
+        Cause::TableFull => String::from_str(alloc, "table full"),
+        Cause::OutputTooLong => String::from_str(alloc, "output too long"),
     }
 }
 
+/// The status of a run that a line of this cause ends.
 fn status_of(cause: Cause) -> Status
     ensures { result ≡ cause_status cause }
 {
     match cause {
         Cause::CannotRead => Status::ReadFault,
-        Cause::NotYet => Status::Refused,
+        _ => Status::Refused,
     }
 }

@@ -8,13 +8,7 @@ ghost use Rattle.nfg_run.specs.declared.answer.Answer.{Answer};
 
 mod answer;
 mod command_line;
-mod evaluation;
-mod gate;
-mod interning;
-mod output;
-mod printing;
 mod reading;
-mod script;
 mod status;
 #[cfg(test)]
 mod tests;
@@ -22,12 +16,11 @@ mod words;
 mod writing;
 
 use crate::answer::answer_words;
-pub use crate::gate::{Gate, OpenGate};
-pub use crate::output::{Cause, FileRead, Output, RefusedLine};
 pub use crate::status::Status;
 pub use crate::words::Words;
 use crate::writing::write_all;
 use nfg_io::{Files, Sink};
+pub use nfg_work::{Cause, FileRead, Gate, OpenGate, Output, RefusedLine};
 use std::alloc::Global;
 use std::marker::Sync;
 use std::thread::Threads;

@@ -1,17 +1,23 @@
 //! Rows over files in memory, and that a run succeeds where there is memory and nothing fails.
 ghost use Rattle.std.specs.Prelude.{◌≤◌};
 
-use crate::evaluation::evaluate;
-use crate::script::parse;
-use crate::{Cause, FileRead, OpenGate, Output, RefusedLine, Status, Words, run};
+use crate::{OpenGate, Status, Words, run};
 use nfg_io::{MemoryFiles, MemorySink};
-use nfg_text::ByteList;
 use std::alloc::{AllocError, Global};
 use std::marker::{Send, Sync};
 use std::test::Fail;
 use std::thread::Threads;
 
 const SCRIPT: &[u8] = b"load a utf8 f\nlen a\nshow a\n";
+
+/// What a run finds: the words of its command line, the script `s`, and the files `f` and `g`.
+#[derive(Clone, Copy)]
+struct Found<'a> {
+    line: &'a str,
+    script: &'a [u8],
+    f: &'a [u8],
+    g: &'a [u8],
+}
 
 /// How the files and the sink behave: the most bytes that a call takes or gives, and the calls that fail.
 #[derive(Clone, Copy)]
@@ -27,6 +33,18 @@ const SOUND: Outside = Outside {
     failing_write: u64::MAX,
 };
 
+const ONE_BYTE: Outside = Outside { step: 1, ..SOUND };
+
+/// The script over one file.
+fn over<'a>(script: &'a [u8], f: &'a [u8]) -> Found<'a> {
+    Found {
+        line: "run s",
+        script,
+        f,
+        g: b"",
+    }
+}
+
 /// The words of a command line, one space between two.
 fn words_of(alloc: Global, line: &str) -> Result<Words, AllocError> {
     let mut words = Words::new(alloc);
@@ -36,21 +54,20 @@ fn words_of(alloc: Global, line: &str) -> Result<Words, AllocError> {
     Ok(words)
 }
 
-/// What the command line gives over the script `s` and the file `f`: the status and the bytes taken.
+/// What the run gives: the status and the bytes taken.
 fn outcome<R: Threads + Sync>(
     rt: &R,
     alloc: Global,
-    line: &str,
-    script: &[u8],
-    file: &[u8],
+    found: Found,
     outside: Outside,
 ) -> Result<(Status, Vec<u8>), AllocError>
     requires { 1 ≤ outside.step }
 {
-    let words = words_of(alloc, line)?;
+    let words = words_of(alloc, found.line)?;
     let mut files = MemoryFiles::new(alloc, outside.step);
-    files.add("s", script)?;
-    files.add("f", file)?;
+    files.add("s", found.script)?;
+    files.add("f", found.f)?;
+    files.add("g", found.g)?;
     files.fail_at(outside.failing_call)?;
     let mut out = MemorySink::new(alloc, outside.step, 1 << 18)?;
     out.fail_at(outside.failing_write)?;
@@ -60,8 +77,8 @@ fn outcome<R: Threads + Sync>(
 
 #[test]
 fn succeeds_with_memory(rt: HostRuntime) -> Result<(), Fail> {
-    let file = b"e\xcc\x81\r\nq";
-    let (status, taken) = outcome(&rt, rt.alloc(), "run s", SCRIPT, file, SOUND)?;
+    let found = over(SCRIPT, b"e\xcc\x81\r\nq");
+    let (status, taken) = outcome(&rt, rt.alloc(), found, SOUND)?;
     assert!(rt; status == Status::Done);
     assert!(rt; taken.as_slice() == b"3\nE9 D+A 71\n".as_slice());
     Ok(())
@@ -69,7 +86,6 @@ fn succeeds_with_memory(rt: HostRuntime) -> Result<(), Fail> {
 
 #[test]
 fn a_file_has_the_clusters_that_a_reader_sees(rt: HostRuntime) -> Result<(), Fail> {
-    let one_byte = Outside { step: 1, ..SOUND };
     for (file, wanted) in [
         ("e\u{301}\r\nq", "3\nE9 D+A 71\n"),
         (
@@ -84,7 +100,8 @@ fn a_file_has_the_clusters_that_a_reader_sees(rt: HostRuntime) -> Result<(), Fai
             "3\n71+323+307 20 71+323+307\n",
         ),
     ] {
-        let (status, taken) = outcome(&rt, rt.alloc(), "run s", SCRIPT, file.as_bytes(), one_byte)?;
+        let found = over(SCRIPT, file.as_bytes());
+        let (status, taken) = outcome(&rt, rt.alloc(), found, ONE_BYTE)?;
         assert!(rt; status == Status::Done);
         assert!(rt; taken.as_slice() == wanted.as_bytes());
     }
@@ -92,102 +109,202 @@ fn a_file_has_the_clusters_that_a_reader_sees(rt: HostRuntime) -> Result<(), Fai
 }
 
 #[test]
-fn every_other_script_is_bad(rt: HostRuntime) -> Result<(), Fail> {
-    for script in [
-        "",
-        "load a utf8 f\nlen a\nshow a",
-        "load a utf8 f\nlen a\nshow a\n\n",
-        "load a utf8 f\nlen a\nshow b\n",
-        "load a utf8 f\nshow a\nlen a\n",
-        "load a utf16 f\nlen a\nshow a\n",
-        "load a utf8  f\nlen a\nshow a\n",
-        "load a utf8 f\r\nlen a\nshow a\n",
-        "load a- utf8 f\nlen a-\nshow a-\n",
+fn files_are_read_by_their_encodings(rt: HostRuntime) -> Result<(), Fail> {
+    for (script, f, g, wanted) in [
+        (
+            "load a utf16 f\nload b utf16 g\nshow a\nshow b\n",
+            b"\xff\xfe\x41\x00".as_slice(),
+            b"\x00\x41".as_slice(),
+            "41\n41\n",
+        ),
+        (
+            "load a utf16be f\nload b latin1 g\nshow b\nshow a\nlen b\n",
+            b"\xd8\x3d\xde\x00".as_slice(),
+            b"\xe9\x0d\x0a".as_slice(),
+            "E9 D+A\n1F600\n2\n",
+        ),
+        (
+            "load a utf8 f\nload b utf8 f\nload c utf8 g\nlen b\nlen c\n",
+            b"ab".as_slice(),
+            b"".as_slice(),
+            "2\n0\n",
+        ),
+        (
+            "load a utf8 f\nlen a\nshow a\nshape a\n",
+            b"".as_slice(),
+            b"".as_slice(),
+            "0\n\nstrands 0\n",
+        ),
     ] {
-        let (status, taken) = outcome(&rt, rt.alloc(), "run s", script.as_bytes(), b"x", SOUND)?;
+        let found = Found {
+            g,
+            ..over(script.as_bytes(), f)
+        };
+        let (status, taken) = outcome(&rt, rt.alloc(), found, ONE_BYTE)?;
+        assert!(rt; status == Status::Done);
+        assert!(rt; taken.as_slice() == wanted.as_bytes());
+    }
+    Ok(())
+}
+
+#[test]
+fn the_refused_line_is_told(rt: HostRuntime) -> Result<(), Fail> {
+    for (script, f, g, wanted) in [
+        (
+            "load a utf8 f\n",
+            b"a\xe2\x82".as_slice(),
+            b"".as_slice(),
+            "line 1: malformed at byte 1\n",
+        ),
+        (
+            "load a utf8 f\n",
+            b"\xed\xa0\x80".as_slice(),
+            b"".as_slice(),
+            "line 1: malformed at byte 0\n",
+        ),
+        (
+            "load a utf16le f\nshow a\nload b utf16le g\n",
+            b"\x3d\xd8\x00\xde".as_slice(),
+            b"\x3d\xd8\x00".as_slice(),
+            "1F600\nline 3: malformed at byte 0\n",
+        ),
+        (
+            "load a latin1 f\nshow a\ntext b 100\nput b latin1\n",
+            b"\r\n\xe9".as_slice(),
+            b"".as_slice(),
+            "D+A E9\nline 4: not encodable at grapheme 0\n",
+        ),
+        (
+            "text a 61 62\nsub b a 2 5\nlen b\nsub c a 1 9223372036854775808\nshow c\nsub d a 3 0\n",
+            b"".as_slice(),
+            b"".as_slice(),
+            "0\n62\nline 6: out of range\n",
+        ),
+    ] {
+        let found = Found {
+            g,
+            ..over(script.as_bytes(), f)
+        };
+        let (status, taken) = outcome(&rt, rt.alloc(), found, SOUND)?;
+        assert!(rt; status == Status::Refused);
+        assert!(rt; taken.as_slice() == wanted.as_bytes());
+    }
+    Ok(())
+}
+
+#[test]
+fn put_writes_the_bytes_and_nothing_else(rt: HostRuntime) -> Result<(), Fail> {
+    let script = b"text a E9 D A\nput a utf8\nput a utf16\nput a latin1\n";
+    let (status, taken) = outcome(&rt, rt.alloc(), over(script, b""), SOUND)?;
+    assert!(rt; status == Status::Done);
+    assert!(rt; taken.as_slice() == b"\xc3\xa9\r\n\xfe\xff\x00\xe9\x00\r\x00\n\xe9\r\n".as_slice());
+    Ok(())
+}
+
+#[test]
+fn an_empty_script_prints_nothing(rt: HostRuntime) -> Result<(), Fail> {
+    for script in ["", "\n", "# a comment\r\n\t \n", "text a"] {
+        let found = over(script.as_bytes(), b"");
+        let (status, taken) = outcome(&rt, rt.alloc(), found, SOUND)?;
+        assert!(rt; status == Status::Done);
+        assert!(rt; taken.is_empty());
+    }
+    Ok(())
+}
+
+/// So many of the byte.
+fn repeated(alloc: Global, byte: u8, count: usize) -> Result<Vec<u8>, AllocError> {
+    let mut bytes = Vec::new(alloc);
+    bytes.resize(count, byte)?;
+    Ok(bytes)
+}
+
+#[test]
+fn a_refused_script_is_bad(rt: HostRuntime) -> Result<(), Fail> {
+    let lines = repeated(rt.alloc(), b'\n', 10_001)?;
+    for script in [
+        b"cat x a b\n".as_slice(),
+        b"frob\n".as_slice(),
+        b"text a D800\n".as_slice(),
+        b"text a 61\ntext a 62\n".as_slice(),
+        b"a\xff".as_slice(),
+        lines.as_slice(),
+    ] {
+        let (status, taken) = outcome(&rt, rt.alloc(), over(script, b""), SOUND)?;
         assert!(rt; status == Status::Bad);
         assert!(rt; taken.as_slice() == b"script: bad\n".as_slice());
     }
     Ok(())
 }
 
-/// So many bytes `a`.
-fn letters(alloc: Global, count: usize) -> Result<Vec<u8>, AllocError> {
-    let mut bytes = Vec::new(alloc);
-    bytes.resize(count, b'a')?;
-    Ok(bytes)
-}
-
-/// `q` with so many acute accents, which is one cluster.
-fn accents(alloc: Global, count: u32) -> Result<Vec<u8>, AllocError> {
-    let mut bytes = Vec::from_slice(alloc, b"q")?;
-    for _ in 0..count {
-        bytes.extend_from_slice(b"\xcc\x81")?;
-    }
-    Ok(bytes)
-}
-
 #[test]
-fn what_is_not_read_yet_is_told(rt: HostRuntime) -> Result<(), Fail> {
-    let long = letters(rt.alloc(), 65_537)?;
-    let marks = accents(rt.alloc(), 1_024)?;
-    for file in [long.as_slice(), marks.as_slice(), b"a\xe2\x82".as_slice()] {
-        let (status, taken) = outcome(&rt, rt.alloc(), "run s", SCRIPT, file, SOUND)?;
-        assert!(rt; status == Status::Refused);
-        assert!(rt; taken.as_slice() == b"line 1: not yet\n".as_slice());
-    }
-    Ok(())
-}
-
-#[test]
-fn the_limits_are_exact(rt: HostRuntime) -> Result<(), Fail> {
-    let long = letters(rt.alloc(), 65_536)?;
-    let marks = accents(rt.alloc(), 1_023)?;
-    for (file, front) in [
-        (long.as_slice(), "65536\n61 61"),
-        (marks.as_slice(), "1\n71+301+301"),
-    ] {
-        let (status, taken) = outcome(&rt, rt.alloc(), "run s", SCRIPT, file, SOUND)?;
+fn the_limits_of_a_script_are_exact(rt: HostRuntime) -> Result<(), Fail> {
+    let lines = repeated(rt.alloc(), b'\n', 10_000)?;
+    let mut bytes = repeated(rt.alloc(), b'#', 1 << 20)?;
+    for script in [lines.as_slice(), bytes.as_slice()] {
+        let (status, taken) = outcome(&rt, rt.alloc(), over(script, b""), SOUND)?;
         assert!(rt; status == Status::Done);
-        assert!(rt; taken.as_slice().starts_with(front.as_bytes()));
+        assert!(rt; taken.is_empty());
     }
+    bytes.push(b'\n')?;
+    let found = over(bytes.as_slice(), b"");
+    let (status, taken) = outcome(&rt, rt.alloc(), found, SOUND)?;
+    assert!(rt; status == Status::Bad);
+    assert!(rt; taken.as_slice() == b"script: bad\n".as_slice());
     Ok(())
 }
 
-/// The refused line over a table of 16 places, where the file has so many different clusters of two code points.
-fn refused_over_16(alloc: Global, clusters: u8) -> Result<Option<RefusedLine>, AllocError>
-    requires { clusters ≤ 32 }
-{
-    let mut file = Vec::new(alloc);
-    for k in 0..clusters {
-        file.extend_from_slice(&[b'q', 0xcc, 0x80 + k])?;
+/// Adds a line `text NAME` with `q` and so many acute accents, which is one cluster.
+fn add_accents(script: &mut Vec<u8>, name: u8, count: u32) -> Result<(), AllocError> {
+    script.extend_from_slice(&[b't', b'e', b'x', b't', b' ', name, b' ', b'7', b'1'])?;
+    for _ in 0..count {
+        script.extend_from_slice(b" 301")?;
     }
-    let mut reads = Vec::new(alloc);
-    reads.push(FileRead::Bytes(ByteList::from_vec(file)))?;
-    match parse(alloc, SCRIPT)? {
-        None => Ok(None),
-        Some(script) => {
-            let output = evaluate(alloc, &script, &reads, 16)?;
-            Ok(output.refused)
-        }
-    }
+    script.push(b'\n')?;
+    Ok(())
 }
 
 #[test]
-fn a_table_of_16_places_takes_16_clusters(rt: HostRuntime) -> Result<(), Fail> {
-    let refused = RefusedLine {
-        line: 1,
-        cause: Cause::NotYet,
+fn a_cluster_has_at_most_1024_code_points(rt: HostRuntime) -> Result<(), Fail> {
+    let mut script = Vec::new(rt.alloc());
+    add_accents(&mut script, b'a', 1_023)?;
+    script.extend_from_slice(b"len a\n")?;
+    add_accents(&mut script, b'b', 1_024)?;
+    let found = over(script.as_slice(), b"");
+    let (status, taken) = outcome(&rt, rt.alloc(), found, SOUND)?;
+    assert!(rt; status == Status::Refused);
+    assert!(rt; taken.as_slice() == b"1\nline 3: cluster too long at grapheme 0\n".as_slice());
+    Ok(())
+}
+
+#[test]
+fn a_file_has_at_most_67108864_bytes(rt: HostRuntime) -> Result<(), Fail> {
+    let script = b"load a utf8 f\nlen a\n";
+    let wide = Outside {
+        step: 1 << 16,
+        ..SOUND
     };
-    assert!(rt; refused_over_16(rt.alloc(), 16)? == None);
-    assert!(rt; refused_over_16(rt.alloc(), 17)? == Some(refused));
+    let mut file = repeated(rt.alloc(), b'a', 1 << 26)?;
+    let found = over(script, file.as_slice());
+    let (status, taken) = outcome(&rt, rt.alloc(), found, wide)?;
+    assert!(rt; status == Status::Done);
+    assert!(rt; taken.as_slice() == b"67108864\n".as_slice());
+    file.push(b'a')?;
+    let found = over(script, file.as_slice());
+    let (status, taken) = outcome(&rt, rt.alloc(), found, wide)?;
+    assert!(rt; status == Status::Refused);
+    assert!(rt; taken.as_slice() == b"line 1: file too long\n".as_slice());
     Ok(())
 }
 
 #[test]
 fn other_words_give_the_usage(rt: HostRuntime) -> Result<(), Fail> {
     for line in ["run", "s", "run -h", "run -- s", "gen s", "run s s"] {
-        let (status, taken) = outcome(&rt, rt.alloc(), line, SCRIPT, b"x", SOUND)?;
+        let found = Found {
+            line,
+            ..over(SCRIPT, b"x")
+        };
+        let (status, taken) = outcome(&rt, rt.alloc(), found, SOUND)?;
         assert!(rt; status == Status::Bad);
         assert!(rt;
             taken.as_slice().starts_with(
@@ -200,7 +317,7 @@ fn other_words_give_the_usage(rt: HostRuntime) -> Result<(), Fail> {
 
 #[test]
 fn each_failed_call_on_files_is_told(rt: HostRuntime) -> Result<(), Fail> {
-    // the script is opened, read and read to its end, and so is the file
+    // the script is opened, read and read to its end, and so are both files
     for (failing_call, wanted) in [
         (0, "script: cannot read\n"),
         (1, "script: cannot read\n"),
@@ -208,12 +325,19 @@ fn each_failed_call_on_files_is_told(rt: HostRuntime) -> Result<(), Fail> {
         (3, "line 1: cannot read\n"),
         (4, "line 1: cannot read\n"),
         (5, "line 1: cannot read\n"),
+        (6, "1\nline 3: cannot read\n"),
+        (7, "1\nline 3: cannot read\n"),
+        (8, "1\nline 3: cannot read\n"),
     ] {
         let outside = Outside {
             failing_call,
             ..SOUND
         };
-        let (status, taken) = outcome(&rt, rt.alloc(), "run s", SCRIPT, b"x", outside)?;
+        let found = Found {
+            g: b"y",
+            ..over(b"load a utf8 f\nlen a\nload b utf8 g\nlen b\n", b"x")
+        };
+        let (status, taken) = outcome(&rt, rt.alloc(), found, outside)?;
         assert!(rt; status == Status::ReadFault);
         assert!(rt; taken.as_slice() == wanted.as_bytes());
     }
@@ -222,32 +346,31 @@ fn each_failed_call_on_files_is_told(rt: HostRuntime) -> Result<(), Fail> {
 
 #[test]
 fn a_path_that_is_not_there_is_told(rt: HostRuntime) -> Result<(), Fail> {
-    let (status, taken) = outcome(&rt, rt.alloc(), "run none", SCRIPT, b"x", SOUND)?;
-    assert!(rt; status == Status::ReadFault);
-    assert!(rt; taken.as_slice() == b"script: cannot read\n".as_slice());
-    let script = b"load a utf8 none\nlen a\nshow a\n";
-    let (status, taken) = outcome(&rt, rt.alloc(), "run s", script, b"x", SOUND)?;
-    assert!(rt; status == Status::ReadFault);
-    assert!(rt; taken.as_slice() == b"line 1: cannot read\n".as_slice());
+    for (line, wanted) in [
+        ("run none", "script: cannot read\n"),
+        ("run s", "1\nline 3: cannot read\n"),
+    ] {
+        let found = Found {
+            line,
+            ..over(b"text a 61\nlen a\nload b utf8 none\n", b"x")
+        };
+        let (status, taken) = outcome(&rt, rt.alloc(), found, SOUND)?;
+        assert!(rt; status == Status::ReadFault);
+        assert!(rt; taken.as_slice() == wanted.as_bytes());
+    }
     Ok(())
 }
 
 #[test]
 fn each_failed_write_leaves_a_front(rt: HostRuntime) -> Result<(), Fail> {
-    for (failing_write, wanted) in [(0, ""), (1, "3\nE9"), (2, "3\nE9 D+A")] {
+    for (failing_write, wanted) in [(0, ""), (1, "61 6"), (2, "61 62 63")] {
         let outside = Outside {
             step: 4,
             failing_write,
             ..SOUND
         };
-        let (status, taken) = outcome(
-            &rt,
-            rt.alloc(),
-            "run s",
-            SCRIPT,
-            b"e\xcc\x81\r\nq",
-            outside,
-        )?;
+        let found = over(b"text a 61 62 63\nshow a\n", b"");
+        let (status, taken) = outcome(&rt, rt.alloc(), found, outside)?;
         assert!(rt; status == Status::WriteFault);
         assert!(rt; taken.as_slice() == wanted.as_bytes());
     }
@@ -267,14 +390,7 @@ fn a_status_has_its_code(rt: HostRuntime) {
 fn is_shared<T: Send + Sync>(_: &T) {}
 
 #[test]
-fn what_workers_hand_back_can_be_shared(rt: HostRuntime) -> Result<(), Fail> {
-    let read = FileRead::Bytes(ByteList::new(rt.alloc()));
-    let output = Output {
-        bytes: ByteList::new(rt.alloc()),
-        refused: None,
-    };
-    is_shared(&read);
-    is_shared(&output);
+fn words_can_be_shared(rt: HostRuntime) -> Result<(), Fail> {
     is_shared(&words_of(rt.alloc(), "run")?);
     Ok(())
 }

@@ -13,9 +13,9 @@ reading-preserved g c =
     let given : IfSome (opened_bytes (g.F.Files.state c.args.files.now).contents (Some c.args.path.now))
     (λ file. ReadsAt file (length c.reading.bytes) c.in_ok-count.count c.read.new.into) =
     rw (i.contents, i.open_path, i.position) at read.bytes in
-    let same : length c.read.new.into ≡ length (take c.min-room.result c.reading.piece) = c.read.auto.into in
+    let same : length c.read.new.into ≡ length (take c.min-room.result c.reading.buffer) = c.read.auto.into in
     let small : length c.read.new.into ≤ c.min-room.result =
-    omega (arith, same, length-take c.min-room.result c.reading.piece) in
+    omega (arith, same, length-take c.min-room.result c.reading.buffer) in
     let len : c.len-in-reading.result ≡ length c.reading.bytes = c.len-in-reading.ensures in
     let room : c.min-room.result ≡ min 65536 (c.args.limit - c.len-in-reading.result) = c.min-room.ensures in
     record {
