@@ -7,7 +7,7 @@ use crate::texts::{self, ByteOrder, LONG, MOST, PIECE, SHORT};
 use crate::timing::{Comparison, compare_few};
 use nfg_decode::{ByteStream, DecodeError, Encoding};
 use nfg_text::CodeList;
-use std::alloc::{AllocError, Global};
+use std::alloc::Global;
 use std::io;
 use std::rt::Clock;
 

@@ -9,6 +9,7 @@ mod lanes;
 mod pipeline;
 mod plain;
 mod strand;
+mod stream;
 mod texts;
 mod timing;
 
@@ -22,8 +23,9 @@ fn main(rt: HostRuntime) -> io::Result<()> {
             "blocks" => blocks::report(&rt, rt.alloc()),
             "decode" => decode::report(&rt, rt.alloc()),
             "strand" => strand::report(&rt, rt.alloc()),
+            "stream" => stream::report(&rt, rt.alloc()),
             _ => println!(rt; "No such subject: {word}"),
         },
-        None => println!(rt; "Name what to time: lanes, blocks, decode, strand"),
+        None => println!(rt; "Name what to time: lanes, blocks, decode, strand, stream"),
     }
 }

@@ -1,0 +1,139 @@
+//! Loading by nfg_stream: beside the plain way, and a long text beside as many bytes of short ones.
+ghost use Rattle.std.specs.Prelude.{◌+◌, ◌^◌, ◌≤◌, length};
+ghost use Rattle.nfg_stream.specs.Stream.{fed_count};
+
+use crate::pipeline;
+use crate::texts::{self, LONG, MOST, PIECE, SHORT};
+use crate::timing::{Comparison, compare_few};
+use nfg_decode::Encoding;
+use nfg_stream::{DecodeStream, LoadError};
+use std::alloc::{AllocError, Global};
+use std::io;
+use std::rt::Clock;
+
+/// Feeds the bytes in pieces of 64 KiB.
+fn feed_all(alloc: Global, stream: &mut DecodeStream, bytes: &[u8]) -> Result<(), LoadError>
+    requires { fed_count stream.old + length bytes.now ≤ 2 ^ 32 }
+{
+    let mut rest = bytes;
+    while !rest.is_empty() {
+        let (piece, after) = rest.split_at(rest.len().min(PIECE));
+        stream.feed(alloc, piece)?;
+        rest = after;
+    }
+    Ok(())
+}
+
+/// Loads a text over a table of its own, and answers how many graphemes it has.
+fn load(alloc: Global, bytes: &[u8]) -> Result<u64, LoadError>
+    requires { length bytes.now ≤ 2 ^ 32 }
+{
+    let (table, mut pass) = pipeline::new_table(alloc)?;
+    let mut stream = DecodeStream::new(alloc, Encoding::Utf8);
+    feed_all(alloc, &mut stream, bytes)?;
+    let string = stream.finish(alloc, &table, &mut pass)?;
+    Ok(string.len())
+}
+
+/// How many graphemes the bytes have, and none where they are refused.
+fn count(alloc: Global, bytes: &[u8]) -> usize {
+    if bytes.len() > MOST {
+        return 0;
+    }
+    load(alloc, bytes).unwrap_or(0) as usize
+}
+
+/// The same by the plain way.
+fn load_plainly(alloc: Global, bytes: &[u8]) -> Result<usize, AllocError>
+    requires { length bytes.now ≤ 2 ^ 32 }
+{
+    let (table, mut pass) = pipeline::new_table(alloc)?;
+    let numbers = pipeline::load(alloc, &table, &mut pass, bytes)?;
+    Ok(numbers.len())
+}
+
+fn count_plainly(alloc: Global, bytes: &[u8]) -> usize {
+    if bytes.len() > MOST {
+        return 0;
+    }
+    load_plainly(alloc, bytes).unwrap_or(0)
+}
+
+/// A text by the stream and by the plain way.
+#[derive(Drop)]
+struct Loading<'a> {
+    alloc: Global,
+    bytes: &'a [u8],
+}
+
+impl Comparison for Loading<'_> {
+    fn fast(&self, _run: usize) -> usize {
+        count(self.alloc, self.bytes)
+    }
+
+    fn plain(&self, _run: usize) -> usize {
+        count_plainly(self.alloc, self.bytes)
+    }
+}
+
+/// A long text beside as many bytes of short ones.
+#[derive(Drop)]
+struct Long<'a> {
+    alloc: Global,
+    bytes: &'a [u8],
+    short: usize,
+}
+
+impl Comparison for Long<'_> {
+    fn fast(&self, _run: usize) -> usize {
+        count(self.alloc, self.bytes)
+    }
+
+    fn plain(&self, _run: usize) -> usize {
+        let mut graphemes: usize = 0;
+        for part in self.bytes.chunks(self.short.max(1)) {
+            graphemes = graphemes.wrapping_add(count(self.alloc, part));
+        }
+        graphemes
+    }
+}
+
+fn report_text(
+    rt: &(impl Print + Clock),
+    alloc: Global,
+    name: &str,
+    sample: &str,
+) -> io::Result<()> {
+    let sample = sample.as_bytes();
+    let bytes = texts::repeated(alloc, sample, LONG)?;
+    let bytes = bytes.as_slice();
+    let short = texts::whole_len(sample, SHORT);
+    println!(rt; "{name}")?;
+    compare_few(
+        rt,
+        " by the plain way",
+        bytes.len(),
+        &Loading { alloc, bytes },
+    )?;
+    compare_few(
+        rt,
+        " 16 MiB by 1 MiB",
+        bytes.len(),
+        &Long {
+            alloc,
+            bytes,
+            short,
+        },
+    )
+}
+
+pub fn report(rt: &(impl Print + Clock), alloc: Global) -> io::Result<()> {
+    report_text(rt, alloc, "ASCII", texts::ASCII)?;
+    report_text(rt, alloc, "French, composed", texts::FRENCH)?;
+    report_text(rt, alloc, "French, decomposed", texts::FRENCH_DECOMPOSED)?;
+    report_text(rt, alloc, "Korean, syllables", texts::HANGUL)?;
+    report_text(rt, alloc, "Korean, jamo", texts::JAMO)?;
+    report_text(rt, alloc, "Chinese", texts::CHINESE)?;
+    report_text(rt, alloc, "Hindi", texts::DEVANAGARI)?;
+    report_text(rt, alloc, "emoji", texts::EMOJI)
+}
