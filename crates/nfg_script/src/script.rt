@@ -1,5 +1,5 @@
 //! A script that was accepted.
-ghost use Rattle.std.specs.Prelude.{◌≡◌, ◌<◌, ◌++◌, ◌∷◌, [], true, length, slice_get, IfSome, OnOk};
+ghost use Rattle.std.specs.Prelude.{◌≡◌, ◌<◌, ◌++◌, ◌∷◌, [], true, length, slice_get, IfSome, OnOk, OnErr};
 ghost use Rattle.nfg_text.specs.Text.{IsText};
 ghost use Rattle.nfg_script.specs.Script.{is_load, is_text, load_paths};
 ghost use Rattle.nfg_script.specs.Answer.{numbered_command};
@@ -41,7 +41,8 @@ impl Script {
 
     /// One more command.
     pub(crate) fn push(&mut self, line: Line) -> Result<(), AllocError>
-        ensures { OnOk result (self.new ≡ self.old ++ numbered_command line ∷ []) }
+        ensures added { OnOk result (self.new ≡ self.old ++ numbered_command line ∷ []) }
+        ensures unchanged { OnErr result (self.new ≡ self.old) }
     {
         let loads = line.command.loads();
         self.lines.push(line)?;
