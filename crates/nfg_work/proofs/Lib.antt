@@ -7,3 +7,5 @@ pub mod Parts
 pub mod Hexadecimals
 pub mod Joined
 pub mod Tables
+pub mod Printed
+pub mod Lacking
