@@ -97,7 +97,7 @@ spelled_at known (m ∷ ns) (c ∷ clusters) (suc i) n are e =
     let rest = spelled_at known ns clusters i n are.1 e in
     record { cluster = rest.cluster; at = rest.at; spelled = rest.spelled }
 
-slice_get-read : (xs : List ℕ) (i d : ℕ) → i < length xs → slice_get xs i ≡ Some (slice_index_or xs i d)
+pub slice_get-read : (xs : List ℕ) (i d : ℕ) → i < length xs → slice_get xs i ≡ Some (slice_index_or xs i d)
 slice_get-read [] i d within = absurd (omega (arith, within))
 slice_get-read (x ∷ xs) zero d within = refl
 slice_get-read (x ∷ xs) (suc i) d within = slice_get-read xs i d (omega (arith, within))
