@@ -9,3 +9,4 @@ pub mod Joined
 pub mod Tables
 pub mod Printed
 pub mod Lacking
+pub mod Answered

@@ -10,7 +10,7 @@ write-requires c =
     let clusters = c.requires.known.0 in
     let gathered = c.in-Ok.ensures.gathered clusters c.requires.known.1 in
     let text : c.as_slice.result.now ≡ text_of clusters = c.as_slice.ensures ∙ gathered.1 ∙ ap (λ v. v ++ text_of clusters) c.new-codes.ensures in
-    subst IsText (sym text) (spelled_text c.args.table.now c.args.pass.now c.args.string.now.graphemes clusters c.requires.table c.requires.known.1)
+    record { text = subst IsText (sym text) (spelled_text c.args.table.now c.args.pass.now c.args.string.now.graphemes clusters c.requires.table c.requires.known.1) }
 
 pub returns-in-Ok-clause-put : goal.returns-in-Ok-clause-put
 returns-in-Ok-clause-put c = λ clusters are.
@@ -18,6 +18,6 @@ returns-in-Ok-clause-put c = λ clusters are.
     let text : c.as_slice.result.now ≡ text_of clusters = c.as_slice.ensures ∙ gathered.1 ∙ ap (λ v. v ++ text_of clusters) c.new-codes.ensures in
     puts-written (first_lacking c.args.e clusters) c.args.e c.args.output.now c.write.new.output c.as_slice.result.now (text_of clusters) c.write.result gathered.0 text c.write.ensures
 
-pub returns-in-Err-clause-put : goal.returns-in-Err-clause-put
-returns-in-Err-clause-put c = λ clusters are.
+pub returns-clause-put : goal.returns-clause-put
+returns-clause-put c = λ clusters are.
     puts-refused c.args.e clusters c.args.output.now c.new-codes.result c.gather.new.codes (encode c.args.e (text_of clusters)) c.in-Err.stop (c.in-Err.ensures.gathered clusters are)
