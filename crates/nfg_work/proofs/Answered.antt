@@ -1,7 +1,8 @@
 -- What a command prints is what the step prints.
-use Rattle.std.proofs.Common.{◌≡◌, ℕ, zero, suc, ◌+◌, ◌≤◌, arith, true, false, nat_lt, List, [], ◌∷◌, ◌++◌, length, drop, slice_get, Option, Some, None, Result, Ok, Err, refl, sym, ap, ◌∙◌, subst}
+use Rattle.std.proofs.Common.{◌≡◌, ℕ, zero, suc, ◌+◌, ◌<◌, ◌≤◌, IfSome, arith, true, false, nat_lt, List, [], ◌∷◌, ◌++◌, length, drop, slice_get, Option, Some, None, Result, Ok, Err, refl, sym, ap, ◌∙◌, subst}
 use Rattle.nfg_syn.specs.OwnTexts.{OwnTexts, IsOwnPass, known_of, seen_of}
-use Rattle.nfg_syn.specs.RepresentsLaws.{Represents-length}
+use Rattle.nfg_syn.specs.Seen.{IsFirst}
+use Rattle.nfg_work.proofs.Tables.{slice_get-same}
 use Rattle.nfg_script.specs.Script.{NumberedCommand}
 use Rattle.nfg_work.specs.declared.evaluation.Evaluation.{Evaluation}
 use Rattle.nfg_work.specs.declared.output.Cause.{Cause}
@@ -91,6 +92,16 @@ drop-past [] (suc k) past = refl
 drop-past (x ∷ script) zero past = absurd (omega (arith, past))
 drop-past (x ∷ script) (suc k) past = drop-past script k (omega (arith, past))
 
+-- what a step leads to
+abbrev after : (places : ℕ) → NumberedCommand → List NumberedCommand → (output : List ℕ) → Result State Cause → Output
+after places numbered script output result = elim result [
+  | Ok next ↦ evaluate_from places next script
+  | Err cause ↦ record {
+    bytes = output;
+    refused = Some (record { line = numbered.line; cause = cause });
+  }
+]
+
 -- one command more
 pub running_next : (places : ℕ) (script : List NumberedCommand) (reads : List FileRead) (held new : Evaluation) (k : ℕ) (numbered : NumberedCommand)
     (r : IsRunning places script reads held k) → slice_get script k ≡ Some numbered
@@ -98,7 +109,8 @@ pub running_next : (places : ℕ) (script : List NumberedCommand) (reads : List 
 running_next places script reads held new k numbered r at f =
     let whole : evaluate_from places r.state (numbered ∷ drop (k + 1) script) ≡ evaluate script reads places =
     ap (evaluate_from places r.state) (sym (drop-at script k numbered at)) ∙ r.rest in
-    let here : evaluate_from places r.state (numbered ∷ drop (k + 1) script) ≡ evaluate_from places f.0 (drop (k + 1) script) = rw f.1 refl in
+    let here : evaluate_from places r.state (numbered ∷ drop (k + 1) script) ≡ evaluate_from places f.0 (drop (k + 1) script) =
+    ap (after places numbered (drop (k + 1) script) r.state.output) f.1 in
     record { state = f.0; holds = f.2; rest = sym here ∙ whole }
 
 -- the refused command ends it
@@ -110,7 +122,8 @@ running_refused places script reads held new k numbered cause line r at line_is 
     let whole : evaluate_from places r.state (numbered ∷ drop (k + 1) script) ≡ evaluate script reads places =
     ap (evaluate_from places r.state) (sym (drop-at script k numbered at)) ∙ r.rest in
     let here : evaluate_from places r.state (numbered ∷ drop (k + 1) script)
-    ≡ record { bytes = r.state.output; refused = Some (record { line = numbered.line; cause = cause }) } = rw f.0 refl in
+    ≡ record { bytes = r.state.output; refused = Some (record { line = numbered.line; cause = cause }) } =
+    ap (after places numbered (drop (k + 1) script) r.state.output) f.0 in
     (λ i. let output : Output = record { bytes = (f.1 ∙ r.holds.output) i; refused = Some (record { line = line_is i; cause = cause }) } in output) ∙ sym here ∙ whole
 
 -- all commands are done
@@ -119,3 +132,26 @@ pub running_done : (places : ℕ) (script : List NumberedCommand) (reads : List 
 running_done places script reads held k r past =
     let whole : evaluate_from places r.state [] ≡ evaluate script reads places = ap (evaluate_from places r.state) (sym (drop-past script k past)) ∙ r.rest in
     (λ i. let output : Output = record { bytes = r.holds.output i; refused = None } in output) ∙ whole
+
+pub running_stopped : (places : ℕ) (script : List NumberedCommand) (reads : List FileRead) (held new : Evaluation) (k : ℕ) (numbered : NumberedCommand) (stop : Stop) (cause other : Cause) (line : ℕ)
+    (r : IsRunning places script reads held k) → slice_get script k ≡ Some numbered → line ≡ numbered.line → stop ≡ Refused cause → other ≡ cause
+    → Follows places reads held new (Err stop) (step places r.state numbered numbered.command)
+    → record { bytes = new.output; refused = Some (record { line = line; cause = other }) } ≡ evaluate script reads places
+running_stopped places script reads held new k numbered stop cause other line r here line_is stop_is same f =
+    let P : Stop → Type 0 = λ s. Follows places reads held new (Err s) (step places r.state numbered numbered.command) in
+    (λ i. let output : Output = record { bytes = new.output; refused = Some (record { line = line; cause = same i }) } in output)
+    ∙ running_refused places script reads held new k numbered cause line r here line_is (subst P stop_is f)
+
+-- there is a command at each place below the length
+pub command_at : (script : List NumberedCommand) (k : ℕ) → k < length script → (numbered : NumberedCommand) × (slice_get script k ≡ Some numbered)
+command_at [] k within = absurd (omega (arith, within))
+command_at (x ∷ script) zero within = (x, refl)
+command_at (x ∷ script) (suc k) within = command_at script k (omega (arith, within))
+
+pub line_at : (script : List NumberedCommand) (k line : ℕ) (numbered : NumberedCommand) → slice_get script k ≡ Some numbered
+    → IfSome (slice_get script k) (λ n. line ≡ n.line) → line ≡ numbered.line
+line_at script k line numbered here is = rw here at is
+
+-- the pass of a new table has no texts
+pub texts-first : (pass : OwnTexts) → IsFirst (seen_of pass) → pass.texts ≡ []
+texts-first pass first = slice_get-same pass.texts [] (λ k. first.known (suc k))
