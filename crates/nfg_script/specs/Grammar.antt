@@ -7,7 +7,7 @@ use Rattle.std.specs.Str.Lossy.{utf8_valid_len}
 use Rattle.nfg_script.specs.declared.error.ScriptError.{ScriptError}
 use Rattle.nfg_script.specs.declared.error.ScriptError.TheVariants.{TooLong, Malformed, Line}
 use Rattle.nfg_script.specs.Script.{NumberedCommand}
-use Rattle.nfg_script.specs.Words.{words_of}
+use Rattle.nfg_script.specs.Words.{◌>>=◌, words_of}
 use Rattle.nfg_script.specs.Line.{LineRead, is_skipped, read_words}
 
 -- the most bytes and the most lines of a script
@@ -58,10 +58,9 @@ and_line so_far line words =
 -- the commands, where these lines are still to be read, the first of them with this number
 unfoldable pub commands_from : ReadSoFar → (line : ℕ) → (lines : List (List ℕ)) → Result (List NumberedCommand) ScriptError
 commands_from so_far line [] = Ok so_far.commands
-commands_from so_far line (first ∷ lines) = elim (and_line so_far line (words_of first)) [
-  | Ok next ↦ commands_from next (suc line) lines
-  | Err refusal ↦ Err refusal
-]
+commands_from so_far line (first ∷ lines) = do
+  next ← and_line so_far line (words_of first)
+  commands_from next (suc line) lines
 
 -- the commands of a script, or its first refusal
 unfoldable pub parse : List ℕ → Result (List NumberedCommand) ScriptError

@@ -38,22 +38,38 @@ text_form names (name ∷ code_points) = do
   Ok (record { command = Text n; path = []; codes = points; defines = Some name })
 text_form names words = Err WordCount
 
+-- the name that a line defines, and one that it uses
+unfoldable pub new_and_known : (names : List (List ℕ)) → (name operand : List ℕ) → Result (ℕ × ℕ) Reason
+new_and_known names name operand = do
+  n ← new_name names name
+  a ← known_name names operand
+  Ok (n, a)
+
+-- two numbers
+unfoldable pub two_numbers : (first second : List ℕ) → Result (ℕ × ℕ) Reason
+two_numbers first second = do
+  m ← number_of first
+  n ← number_of second
+  Ok (m, n)
+
 -- sub N A START LEN
 unfoldable pub sub_form : (names words : List (List ℕ)) → Result LineRead Reason
 sub_form names (name ∷ operand ∷ start ∷ count ∷ []) = do
-  n ← new_name names name
-  a ← known_name names operand
-  from ← number_of start
-  most ← number_of count
-  Ok (record { command = Sub n a from most; path = []; codes = []; defines = Some name })
+  both ← new_and_known names name operand
+  span ← two_numbers start count
+  Ok (record { command = Sub both.0 both.1 span.0 span.1; path = []; codes = []; defines = Some name })
 sub_form names words = Err WordCount
+
+-- the one name that a form uses
+unfoldable pub one_name : (names words : List (List ℕ)) → Result ℕ Reason
+one_name names (operand ∷ []) = known_name names operand
+one_name names words = Err WordCount
 
 -- len A, show A, shape A
 unfoldable pub one_name_form : (ℕ → Command) → (names words : List (List ℕ)) → Result LineRead Reason
-one_name_form command names (operand ∷ []) = do
-  a ← known_name names operand
+one_name_form command names words = do
+  a ← one_name names words
   Ok (command_alone (command a))
-one_name_form command names words = Err WordCount
 
 -- put A ENC
 unfoldable pub put_form : (names words : List (List ℕ)) → Result LineRead Reason

@@ -19,9 +19,9 @@ words_of line = filter (λ word. nat_lt 0 (length word)) (slice_split is_blank l
 
 -- what follows a step that may be refused
 infixl 10 ◌>>=◌
-abbrev pub ◌>>=◌ : {A B : Type 0} → Result A Reason → (A → Result B Reason) → Result B Reason
+abbrev pub ◌>>=◌ : {A B E : Type 0} → Result A E → (A → Result B E) → Result B E
 (Ok x) >>= f = f x
-(Err reason) >>= f = Err reason
+(Err refusal) >>= f = Err refusal
 
 -- an ASCII letter, an ASCII digit or `_`
 abbrev pub is_name_byte : ℕ → Bool

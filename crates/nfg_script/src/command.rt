@@ -1,4 +1,7 @@
 //! The commands of a script.
+ghost use Rattle.std.specs.Prelude.{◌≡◌, if◌then◌else◌};
+ghost use Rattle.nfg_script.specs.Script.{is_load};
+
 use nfg_decode::Encoding;
 
 /// A command. A name is a number: its place in the order in which the script defines names, from 0.
@@ -37,4 +40,16 @@ pub enum Command {
         a: u32,
         enc: Encoding,
     },
+}
+
+impl Command {
+    /// How many files it loads.
+    pub(crate) fn loads(self) -> usize
+        ensures { result ≡ (if is_load self then 1 else 0) }
+    {
+        match self {
+            Command::Load { .. } => 1,
+            _ => 0,
+        }
+    }
 }

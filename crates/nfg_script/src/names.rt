@@ -1,5 +1,5 @@
 //! The names that the lines so far define.
-ghost use Rattle.std.specs.Prelude.{◌≡◌, ◌<◌, ◌^◌, ◌++◌, ◌∷◌, [], length, OnOk};
+ghost use Rattle.std.specs.Prelude.{◌≡◌, ◌<◌, ◌^◌, ◌++◌, ◌∷◌, [], length, OnOk, OnErr, None};
 ghost use Rattle.nfg_script.specs.Words.{place_of, new_name, known_name};
 
 use crate::Reason;
@@ -56,11 +56,12 @@ impl<'a> Names<'a> {
         self.places.get(word).copied()
     }
 
-    /// One more name. After an `Err` no name is added.
+    /// One more name.
     pub fn push(&mut self, name: &'a str) -> Result<(), AllocError>
         requires fits { length self.old < 2 ^ 32 }
         requires new { place_of self.old name.now ≡ None }
-        ensures { OnOk result (self.new ≡ self.old ++ name.now ∷ []) }
+        ensures added { OnOk result (self.new ≡ self.old ++ name.now ∷ []) }
+        ensures unchanged { OnErr result (self.new ≡ self.old) }
     {
         let place = self.in_order.len() as u32;
         self.in_order.push(name)?;
@@ -78,7 +79,8 @@ impl<'a> Names<'a> {
 #[tactic(auto, unfolding(crate::specs::Words::new_name))]
 pub(crate) fn read_new_name(names: &Names, word: &str) -> Result<u32, Reason>
     requires { length names.now < 2 ^ 32 }
-    ensures { result ≡ new_name names.now word.now }
+    ensures number { result ≡ new_name names.now word.now }
+    ensures new { OnOk result (place_of names.now word.now ≡ None) }
 {
     if !is_name(word) {
         return Err(Reason::BadName);

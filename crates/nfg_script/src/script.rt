@@ -1,22 +1,13 @@
 //! A script that was accepted.
-ghost use Rattle.std.specs.Prelude.{◌≡◌, ◌≢◌, ◌<◌, true, length, slice_get, Some, IfSome, Ok, Err, IfOk, IfErr};
+ghost use Rattle.std.specs.Prelude.{◌≡◌, ◌<◌, ◌++◌, ◌∷◌, [], true, length, slice_get, IfSome, OnOk, OnErr};
 ghost use Rattle.nfg_text.specs.Text.{IsText};
-ghost use Rattle.nfg_script.specs.Grammar.{parse as parsed};
 ghost use Rattle.nfg_script.specs.Script.{is_load, is_text, load_paths};
+ghost use Rattle.nfg_script.specs.Answer.{numbered_command};
 
-use crate::{Command, ScriptError};
-use nfg_text::CodeList;
-use std::alloc::Global;
+use crate::Command;
+use crate::line::Line;
+use std::alloc::{AllocError, Global};
 use std::marker::Model;
-
-/// A command with its line.
-#[derive(Drop)]
-struct Line {
-    number: u32,
-    command: Command,
-    path: String,
-    codes: CodeList,
-}
 
 /// A script that was accepted, as the list of its commands.
 #[derive(Drop)]
@@ -26,19 +17,40 @@ pub struct Script {
 }
 
 impl Model for Script {
-    ghost use Rattle.std.specs.Prelude.{◌≡◌, List, string_bytes, map, length, All};
-    ghost use Rattle.nfg_text.specs.Text.{IsText};
+    ghost use Rattle.std.specs.Prelude.{◌≡◌, List, map, length};
     ghost use Rattle.nfg_script.specs.Script.{NumberedCommand, load_paths};
-    ghost use Rattle.nfg_script.specs.declared.script.Line.{Line};
+    ghost use Rattle.nfg_script.specs.Answer.{numbered_command};
 
     ghost Value = { List NumberedCommand };
 
-    ghost view = { λ s. map (λ l. record { line = l.number; command = l.command; path = string_bytes l.path; codes = l.codes }) s.lines.items };
+    ghost view = { λ script. map numbered_command script.lines.items };
 
-    ghost invariant = { λ s. All (λ l. IsText l.codes) s.lines.items };
+    ghost invariant = { λ script.
+        script.loads ≡ length (load_paths (map numbered_command script.lines.items)) };
 }
 
 impl Script {
+    /// The script without commands. It keeps the allocator and takes no memory.
+    pub(crate) fn new(alloc: Global) -> Script
+        ensures { result ≡ [] }
+    {
+        Script {
+            lines: Vec::new(alloc),
+            loads: 0,
+        }
+    }
+
+    /// One more command.
+    pub(crate) fn push(&mut self, line: Line) -> Result<(), AllocError>
+        ensures added { OnOk result (self.new ≡ self.old ++ numbered_command line ∷ []) }
+        ensures unchanged { OnErr result (self.new ≡ self.old) }
+    {
+        let loads = line.command.loads();
+        self.lines.push(line)?;
+        self.loads += loads;
+        Ok(())
+    }
+
     /// How many commands there are.
     pub fn len(&self) -> usize
         ensures { result ≡ length self.now }
@@ -62,25 +74,31 @@ impl Script {
         self.lines[k].number
     }
 
+    /// The path of the load at `k`.
+    pub fn path(&self, k: usize) -> &str
+        requires place { k < length self.now }
+        requires load { IfSome (slice_get self.now k)
+            (λ numbered. is_load numbered.command ≡ true) }
+        ensures { IfSome (slice_get self.now k) (λ numbered. result.now ≡ numbered.path) }
+    {
+        self.lines[k].path.as_str()
+    }
+
     /// The code points of the text at `k`.
     pub fn codes(&self, k: usize) -> &[u32]
         requires place { k < length self.now }
-        requires text { IfSome (slice_get self.now k) (λ numbered. is_text numbered.command ≡ true) }
+        requires text { IfSome (slice_get self.now k)
+            (λ numbered. is_text numbered.command ≡ true) }
         ensures codes { IfSome (slice_get self.now k) (λ numbered. result.now ≡ numbered.codes) }
         ensures scalar_values { IsText result.now }
     {
         self.lines[k].codes.as_slice()
     }
-}
 
-/// The commands of a script.
-///
-/// Refuses with `TooLong` where the script has over 2^20 bytes or over 10,000 lines, with `Malformed`
-/// where it isn't UTF-8, and with `Line` at the first line that is no command, for its first reason.
-pub fn parse(_alloc: Global, bytes: &[u8]) -> Result<Script, ScriptError>
-    ensures parsed { IfOk result (λ script. parsed bytes.now ≡ Ok script) }
-    ensures refused { IfErr result (λ error. error ≢ ScriptError.OutOfMemory → parsed bytes.now ≡ Err error) }
-{
-    let _ = bytes;
-    Err(ScriptError::OutOfMemory)
+    /// How many loads there are.
+    pub fn loads(&self) -> usize
+        ensures { result ≡ length (load_paths self.now) }
+    {
+        self.loads
+    }
 }

@@ -1,10 +1,10 @@
-use Rattle.std.proofs.Common.{◌≡◌, ◌∙◌, ◌==◌, ap, sym, subst, rules, arith, List, ℕ, IfOk, length, nat_lt, map, Bor, not}
+use Rattle.std.proofs.Common.{◌≡◌, ◌==◌, subst, rules, arith, List, ℕ, IfOk, length, nat_lt, map, Bor}
 use borrow.Author.Tests.{tests}
-use Rattle.std.specs.List.{slice_split, filter, flat_map}
+use Rattle.std.specs.List.{slice_split, filter}
 use Rattle.std.proofs.lemmas.Iterator.Splits.{YieldsList-from_str_split}
 use Rattle.std.proofs.lemmas.Iterator.Adapters.{YieldsList-from_flat_map}
 use Rattle.std.proofs.lemmas.Iterator.Consumers.{YieldsList-at, YieldsList-from_filter, map_from_collect}
-use Rattle.nfg_script.specs.Words.{words_of, is_blank}
+use Rattle.nfg_script.specs.Words.{words_of}
 use Rattle.nfg_script.proofs.Blanks.{both_cuts}
 use Rattle.nfg_script.proofs.words.words.Goals as goal
 

@@ -1,4 +1,4 @@
-use Rattle.std.proofs.Common.{◌≡◌, map, arith}
+use Rattle.std.proofs.Common.{arith}
 use Rattle.std.proofs.lemmas.Grind.{common_steps}
 use Rattle.nfg_script.proofs.Places.{place_of-nil}
 use Rattle.nfg_script.proofs.names.Names.new.Goals as goal

@@ -1,0 +1,10 @@
+use Rattle.std.proofs.Common.{arith}
+use Rattle.std.proofs.lemmas.Iterator.Splits.{YieldsList-from_str_split}
+use Rattle.std.proofs.lemmas.Iterator.Consumers.{map_from_collect}
+use Rattle.nfg_script.proofs.reading.parts.Goals as goal
+
+pub returns : goal.returns
+returns c =
+    let split = c.split.ensures in
+    map_from_collect _ c.collect.ensures.ran
+    (YieldsList-from_str_split 10 c.args.text.now (omega arith) split.text split.has_more split.pattern)
