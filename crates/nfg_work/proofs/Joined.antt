@@ -1,8 +1,12 @@
 -- Parts joined one after the other, each with a separator behind it.
-use Rattle.std.proofs.Common.{◌≡◌, ℕ, zero, suc, ◌+◌, ◌-◌, ◌<◌, ◌≤◌, List, [], ◌∷◌, ◌++◌, map, length, take, drop, slice_get, slice_range, Some, ℤ, refl, sym, ap, ◌∙◌, append_assoc, append-nil, length-append, arith}
+use Rattle.std.proofs.Common.{◌≡◌, ℕ, zero, suc, ◌+◌, ◌-◌, ◌<◌, ◌≤◌, List, [], ◌∷◌, ◌++◌, map, length, take, drop, slice_get, slice_index_or, slice_range, Some, Result, Ok, Err, OnOk, true, ℤ, refl, sym, ap, ◌∙◌, append_assoc, append-nil, length-append, arith}
 use Rattle.std.specs.List.{join_with_byte, flat_map}
 use Rattle.std.proofs.Math.Seq.{take-append_seam}
 use Rattle.std.proofs.lemmas.List.Concat.{flat_map-append}
+use Rattle.std.specs.Fmt.{digits}
+use Rattle.std.specs.declared.alloc.AllocError.{AllocError}
+use Rattle.nfg_work.specs.Printing.{shown, shown_cluster}
+use Rattle.nfg_work.specs.Separated.{shown_with_space}
 use Rattle.nfg_syn.specs.Known.{Texts}
 use Rattle.nfg_syn.specs.Represents.{Represents, spelling}
 use Rattle.nfg_syn.specs.RepresentsLaws.{Represents-take, Represents-drop}
@@ -92,3 +96,41 @@ spelled_at known (m ∷ ns) (c ∷ clusters) zero n are e =
 spelled_at known (m ∷ ns) (c ∷ clusters) (suc i) n are e =
     let rest = spelled_at known ns clusters i n are.1 e in
     record { cluster = rest.cluster; at = rest.at; spelled = rest.spelled }
+
+pub slice_get-read : (xs : List ℕ) (i d : ℕ) → i < length xs → slice_get xs i ≡ Some (slice_index_or xs i d)
+slice_get-read [] i d within = absurd (omega (arith, within))
+slice_get-read (x ∷ xs) zero d within = refl
+slice_get-read (x ∷ xs) (suc i) d within = slice_get-read xs i d (omega (arith, within))
+
+-- the last code point ends a cluster
+pub shown-last : (cluster : List ℕ) (k : ℕ) (start old new : List ℕ) (result : Result (Unit {0}) AllocError)
+    → old ≡ start ++ flat_map (closed 43 (digits 16 true)) (take k cluster) → length cluster - 1 ≤ k → k < length cluster
+    → OnOk result (new ≡ old ++ (digits 16 true (slice_index_or cluster (length cluster - 1) 0) ++ 32 ∷ []))
+    → OnOk result (new ≡ start ++ shown_with_space cluster)
+shown-last cluster k start old new (Ok done) old_is high low new_is =
+    let k_is : length cluster - 1 ≡ k = omega (arith, high, low) in
+    let x = slice_index_or cluster k 0 in
+    let at = slice_get-read cluster k 0 low in
+    let whole = join-last 43 (digits 16 true) cluster k x at (omega (arith, high, low)) in
+    new_is ∙ ap (λ i. old ++ (digits 16 true (slice_index_or cluster i 0) ++ 32 ∷ [])) k_is ∙ ap (λ v. v ++ (digits 16 true x ++ 32 ∷ [])) old_is
+    ∙ append_assoc start (flat_map (closed 43 (digits 16 true)) (take k cluster)) (digits 16 true x ++ 32 ∷ [])
+    ∙ ap (λ v. start ++ v) (sym (append_assoc (flat_map (closed 43 (digits 16 true)) (take k cluster)) (digits 16 true x) (32 ∷ [])) ∙ ap (λ v. v ++ 32 ∷ []) whole)
+shown-last cluster k start old new (Err e) old_is high low new_is = tt
+
+-- closed clusters without the last space are a line
+pub line-cut : (start : List ℕ) (clusters : List (List ℕ)) (old : List ℕ) (had : ℕ) → length start ≡ had → old ≡ start ++ flat_map shown_with_space clusters
+    → had < length old → take (length old - 1) old ≡ start ++ shown clusters
+line-cut start [] old had had_is old_is more = absurd (let long = ap length old_is ∙ length-append start [] in omega (arith, long, had_is, more))
+line-cut start (c ∷ clusters) old had had_is old_is more =
+    let text = shown (c ∷ clusters) in
+    let parts : old ≡ (start ++ text) ++ 32 ∷ [] = old_is ∙ ap (λ v. start ++ v) (join-closed 32 shown_cluster c clusters) ∙ sym (append_assoc start text (32 ∷ [])) in
+    let long : length old - 1 ≡ length (start ++ text) = (let l : length old ≡ length (start ++ text) + 1 = ap length parts ∙ length-append (start ++ text) (32 ∷ []) in omega (arith, l)) in
+    (λ i. take (long i) (parts i)) ∙ take-append_seam (start ++ text) (32 ∷ [])
+
+pub line-none : (start : List ℕ) (clusters : List (List ℕ)) (old : List ℕ) (had : ℕ) → length start ≡ had → old ≡ start ++ flat_map shown_with_space clusters
+    → length old ≤ had → old ≡ start ++ shown clusters
+line-none start [] old had had_is old_is less = old_is
+line-none start (c ∷ clusters) old had had_is old_is less =
+    let long = ap length old_is ∙ length-append start (flat_map shown_with_space (c ∷ clusters)) in
+    let closed_is = ap length (join-closed 32 shown_cluster c clusters) ∙ length-append (shown (c ∷ clusters)) (32 ∷ []) in
+    absurd (omega (arith, long, closed_is, had_is, less))

@@ -7,3 +7,6 @@ pub mod Parts
 pub mod Hexadecimals
 pub mod Joined
 pub mod Tables
+pub mod Printed
+pub mod Lacking
+pub mod Answered

@@ -18,7 +18,7 @@ use crate::{Cause, FileRead};
 use nfg_decode::Encoding;
 use nfg_ops::{SubError, substring};
 use nfg_strand::NString;
-use nfg_stream::{LoadError, string_of};
+use nfg_stream::{DecodeStream, LoadError, string_of};
 use nfg_syn::{OwnPass, OwnTable};
 use std::alloc::Global;
 
@@ -112,8 +112,10 @@ fn load_bytes(
     ensures keeps { Keeps (seen_of pass.old) (seen_of pass.new) }
     ensures loaded { HasLoaded (decode e bytes.now) (seen_of pass.old) (seen_of pass.new) result }
 {
-    let _ = alloc;
-    Err(LoadError::OutOfMemory)
+    let mut stream = DecodeStream::new(alloc, e);
+    // The stream keeps a refusal, and answers it again at the end.
+    let _ = stream.feed(alloc, bytes);
+    stream.finish(alloc, table, pass)
 }
 
 /// The next name gets the text of a file's bytes.

@@ -13,6 +13,8 @@ mod printing;
 mod put;
 mod spelling;
 mod stop;
+#[cfg(test)]
+mod tests;
 
 pub use alone::run_alone;
 pub use gate::{Gate, OpenGate};

@@ -155,8 +155,10 @@ pub(crate) fn show(
         let count = (len - at).min(PART as u64) as usize;
         string.copy_into(at, &mut numbers[..count]);
         show_part(table, pass, &numbers[..count], &mut buffer, output)?;
-        within_limit(output, had)?;
-        at += count as u64;
+        match within_limit(output, had) {
+            Ok(()) => at += count as u64,
+            Err(stop) => return Err(stop),
+        }
     }
     end_line(output, had)
 }

@@ -1,11 +1,11 @@
 //! The command `put`.
 ghost use Rattle.std.specs.Prelude.{◌≡◌, ◌≤◌, ◌+◌, ◌^◌, ℕ, List, length};
-ghost use Rattle.nfg_text.specs.Text.{text_of};
+ghost use Rattle.nfg_text.specs.Text.{IsText, text_of};
 ghost use Rattle.nfg_decode.specs.Encoding.{encode, has_code};
 ghost use Rattle.nfg_syn.specs.OwnTexts.{IsOwnPass, known_of};
 ghost use Rattle.nfg_syn.specs.Represents.{Represents};
 ghost use Rattle.nfg_work.specs.Evaluation.{first_lacking, is_lacking};
-ghost use Rattle.nfg_work.specs.Holding.{Puts, Gathers, AreSpelled};
+ghost use Rattle.nfg_work.specs.Holding.{Prints, Puts, Gathers, AreSpelled};
 
 use crate::Cause;
 use crate::printing::within_limit;
@@ -35,7 +35,12 @@ fn has(e: Encoding, code: u32) -> bool
 fn lacks(e: Encoding, cluster: &[u32]) -> bool
     ensures { result ≡ is_lacking e cluster.now }
 {
-    !cluster.iter().all(|code| has(e, *code))
+    for code in cluster {
+        if !has(e, *code) {
+            return true;
+        }
+    }
+    false
 }
 
 /// Adds the code points of the clusters that the numbers stand for, the first of which is the
@@ -92,10 +97,29 @@ fn gather(
     'gathering: while at < len {
         let count = (len - at).min(PART as u64) as usize;
         string.copy_into(at, &mut numbers[..count]);
-        gather_part(table, pass, &numbers[..count], at, e, &mut buffer, codes)?;
-        at += count as u64;
+        match gather_part(table, pass, &numbers[..count], at, e, &mut buffer, codes) {
+            Ok(()) => at += count as u64,
+            Err(stop) => return Err(stop),
+        }
     }
     Ok(())
+}
+
+/// Writes the bytes of the text in the encoding.
+fn write(
+    alloc: Global,
+    e: Encoding,
+    codes: &[u32],
+    output: &mut ByteList,
+) -> Result<(), Stop>
+    requires text { IsText codes.now }
+    ensures { Prints output.old output.new result (encode e codes.now) }
+{
+    let had = output.len();
+    match encode_into(alloc, e, codes, output) {
+        Ok(()) => within_limit(output, had),
+        Err(_) => Err(Stop::OutOfMemory),
+    }
 }
 
 /// Writes the bytes of the string in the encoding.
@@ -115,10 +139,8 @@ pub(crate) fn put(
         → Puts (first_lacking e clusters) output.old output.new result (encode e (text_of clusters)) }
 {
     let mut codes = CodeList::new(alloc);
-    gather(table, pass, string, e, &mut codes)?;
-    let had = output.len();
-    match encode_into(alloc, e, codes.as_slice(), output) {
-        Ok(()) => within_limit(output, had),
-        Err(_) => Err(Stop::OutOfMemory),
+    match gather(table, pass, string, e, &mut codes) {
+        Ok(()) => write(alloc, e, codes.as_slice(), output),
+        Err(stop) => Err(stop),
     }
 }
