@@ -1,5 +1,5 @@
 //! The names that the lines so far define.
-ghost use Rattle.std.specs.Prelude.{◌≡◌, ◌<◌, ◌^◌, ◌++◌, ◌∷◌, [], length, OnOk, None};
+ghost use Rattle.std.specs.Prelude.{◌≡◌, ◌<◌, ◌^◌, ◌++◌, ◌∷◌, [], length, OnOk, OnErr, None};
 ghost use Rattle.nfg_script.specs.Words.{place_of, new_name, known_name};
 
 use crate::Reason;
@@ -56,11 +56,12 @@ impl<'a> Names<'a> {
         self.places.get(word).copied()
     }
 
-    /// One more name. After an `Err` no name is added.
+    /// One more name.
     pub fn push(&mut self, name: &'a str) -> Result<(), AllocError>
         requires fits { length self.old < 2 ^ 32 }
         requires new { place_of self.old name.now ≡ None }
-        ensures { OnOk result (self.new ≡ self.old ++ name.now ∷ []) }
+        ensures added { OnOk result (self.new ≡ self.old ++ name.now ∷ []) }
+        ensures unchanged { OnErr result (self.new ≡ self.old) }
     {
         let place = self.in_order.len() as u32;
         self.in_order.push(name)?;

@@ -1,5 +1,5 @@
 //! A script is read.
-ghost use Rattle.std.specs.Prelude.{◌≡◌, ◌≢◌, ◌≤◌, ◌<◌, ◌+◌, ◌^◌, [], Ok, Err, IfOk, IfErr, OnOk, IfSome, None, length, map, count_by, ◌==◌};
+ghost use Rattle.std.specs.Prelude.{◌≡◌, ◌≢◌, ◌≤◌, ◌<◌, ◌+◌, ◌^◌, [], Ok, Err, IfOk, IfErr, OnOk, length, map, count_by, ◌==◌};
 ghost use Rattle.std.specs.List.{slice_split};
 ghost use Rattle.std.specs.Str.Lines.{strip_carriage_return};
 ghost use Rattle.nfg_script.specs.Answer.{texts, so_far, line_read, DefinesNew, Answers};
@@ -126,7 +126,8 @@ fn read_line<'a>(
 /// Reads the lines of a script in order.
 fn read_lines(alloc: Global, lines: &[&str]) -> Result<Script, ScriptError>
     requires { length lines.now ≤ 10001 }
-    ensures { Answers result (commands_from (so_far [] []) 1 (map strip_carriage_return (texts lines.now))) }
+    ensures { Answers result
+        (commands_from (so_far [] []) 1 (map strip_carriage_return (texts lines.now))) }
 {
     let mut names = Names::new(alloc);
     let mut script = Script::new(alloc);
@@ -160,7 +161,8 @@ fn read_text(alloc: Global, text: &str) -> Result<Script, ScriptError>
 #[tactic(auto, unfolding(crate::specs::Grammar::parse))]
 pub fn parse(alloc: Global, bytes: &[u8]) -> Result<Script, ScriptError>
     ensures parsed { IfOk result (λ script. parsed bytes.now ≡ Ok script) }
-    ensures refused { IfErr result (λ error. error ≢ ScriptError.OutOfMemory → parsed bytes.now ≡ Err error) }
+    ensures refused { IfErr result (λ error.
+        error ≢ ScriptError.OutOfMemory → parsed bytes.now ≡ Err error) }
 {
     if bytes.len() > BYTE_LIMIT {
         return Err(ScriptError::TooLong);

@@ -1,5 +1,5 @@
 //! A script that was accepted.
-ghost use Rattle.std.specs.Prelude.{◌≡◌, ◌<◌, ◌++◌, ◌∷◌, [], true, length, slice_get, IfSome, OnOk};
+ghost use Rattle.std.specs.Prelude.{◌≡◌, ◌<◌, ◌++◌, ◌∷◌, [], true, length, slice_get, IfSome, OnOk, OnErr};
 ghost use Rattle.nfg_text.specs.Text.{IsText};
 ghost use Rattle.nfg_script.specs.Script.{is_load, is_text, load_paths};
 ghost use Rattle.nfg_script.specs.Answer.{numbered_command};
@@ -25,7 +25,8 @@ impl Model for Script {
 
     ghost view = { λ script. map numbered_command script.lines.items };
 
-    ghost invariant = { λ script. script.loads ≡ length (load_paths (map numbered_command script.lines.items)) };
+    ghost invariant = { λ script.
+        script.loads ≡ length (load_paths (map numbered_command script.lines.items)) };
 }
 
 impl Script {
@@ -41,7 +42,8 @@ impl Script {
 
     /// One more command.
     pub(crate) fn push(&mut self, line: Line) -> Result<(), AllocError>
-        ensures { OnOk result (self.new ≡ self.old ++ numbered_command line ∷ []) }
+        ensures added { OnOk result (self.new ≡ self.old ++ numbered_command line ∷ []) }
+        ensures unchanged { OnErr result (self.new ≡ self.old) }
     {
         let loads = line.command.loads();
         self.lines.push(line)?;
@@ -75,7 +77,8 @@ impl Script {
     /// The path of the load at `k`.
     pub fn path(&self, k: usize) -> &str
         requires place { k < length self.now }
-        requires load { IfSome (slice_get self.now k) (λ numbered. is_load numbered.command ≡ true) }
+        requires load { IfSome (slice_get self.now k)
+            (λ numbered. is_load numbered.command ≡ true) }
         ensures { IfSome (slice_get self.now k) (λ numbered. result.now ≡ numbered.path) }
     {
         self.lines[k].path.as_str()
@@ -84,7 +87,8 @@ impl Script {
     /// The code points of the text at `k`.
     pub fn codes(&self, k: usize) -> &[u32]
         requires place { k < length self.now }
-        requires text { IfSome (slice_get self.now k) (λ numbered. is_text numbered.command ≡ true) }
+        requires text { IfSome (slice_get self.now k)
+            (λ numbered. is_text numbered.command ≡ true) }
         ensures codes { IfSome (slice_get self.now k) (λ numbered. result.now ≡ numbered.codes) }
         ensures scalar_values { IsText result.now }
     {

@@ -1,9 +1,7 @@
 //! One word of a line is read.
-ghost use Rattle.std.specs.Prelude.{◌≡◌, ◌<◌, IfOk};
+ghost use Rattle.std.specs.Prelude.{◌≡◌};
 ghost use Rattle.std.specs.List.{list_all};
 ghost use Rattle.std.specs.Char.{is_ascii_digit, is_ascii_hexdigit};
-ghost use Rattle.std.specs.Str.{all_scalars};
-ghost use Rattle.nfg_text.specs.Text.{IsText};
 ghost use Rattle.nfg_script.specs.Words.{number_of, encoding_of, code_point_of};
 ghost use Rattle.nfg_script.specs.Words.{is_name as is_name_of, is_name_byte as is_byte_of_name};
 
