@@ -1,1 +1,4 @@
 pub mod Load
+pub mod Numbering
+pub mod Reading
+pub mod Stream

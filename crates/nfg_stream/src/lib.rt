@@ -2,7 +2,15 @@
 #![tactic(auto)]
 
 mod error;
+mod numbering;
+mod reader;
+#[cfg(test)]
+mod spelled;
+mod stream;
+#[cfg(test)]
+mod tests;
 mod whole;
 
 pub use error::LoadError;
+pub use stream::DecodeStream;
 pub use whole::string_of;

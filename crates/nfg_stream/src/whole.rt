@@ -6,6 +6,8 @@ ghost use Rattle.nfg_syn.specs.Seen.{Keeps, SameCounts};
 ghost use Rattle.nfg_stream.specs.Load.{HasMade};
 
 use crate::LoadError;
+use crate::numbering::string_from;
+use nfg_segment::{Clusters, Segmenter};
 use nfg_strand::NString;
 use nfg_syn::Synthetics;
 use std::alloc::Global;
@@ -27,6 +29,9 @@ pub fn string_of<T: Synthetics>(
     ensures counts { SameCounts (T.seen pass.old) (T.seen pass.new) }
     ensures made { HasMade (graphemes_of text.now) (T.seen pass.old) (T.seen pass.new) result }
 {
-    let _ = alloc;
-    Err(LoadError::OutOfMemory)
+    let mut segmenter = Segmenter::new(alloc);
+    let mut clusters = Clusters::new(alloc);
+    segmenter.feed(alloc, text, &mut clusters)?;
+    segmenter.finish(alloc, &mut clusters)?;
+    string_from(alloc, table, pass, &clusters)
 }

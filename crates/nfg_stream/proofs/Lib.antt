@@ -1,0 +1,6 @@
+pub mod Learned
+pub mod Holding
+pub mod Numbered
+pub mod GraphemeTexts
+pub mod ReadingLemmas
+pub mod StreamLemmas
