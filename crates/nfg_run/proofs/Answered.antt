@@ -51,12 +51,15 @@ HasFailedAt-earlier before between after (Some path) le failed = record {
   broken = failed.broken;
 }
 
+-- what holds of a result, by what follows from it
 pub IfOk-map : {T E : Type 0} (P Q : T → Type 0) (r : Result T E) → ((x : T) → P x → Q x) → IfOk r P → IfOk r Q
 IfOk-map P Q (Ok x) f h = f x h
 IfOk-map P Q (Err e) f h = tt
 
+-- nothing, where there is nothing
 pub IfSome-none : {T : Type 0} (x : Option T) (P : T → Type 0) → x ≡ None → IfSome x P
 IfSome-none x P e = rw e tt
 
+-- what holds of what there is
 pub IfSome-some : {T : Type 0} (x : Option T) (P : T → Type 0) (y : T) → x ≡ Some y → P y → IfSome x P
 IfSome-some x P y e holds = rw e holds

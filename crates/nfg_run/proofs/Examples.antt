@@ -1,21 +1,19 @@
 -- Worked rows, each computed from the definitions.
-use Rattle.std.proofs.Common.{◌≡◌, ℕ, List, [], ◌∷◌, ◌++◌, Bool, true, false, Some, None, Ok, Err, refl, sym, subst, codes}
+use Rattle.std.proofs.Common.{◌≡◌, ℕ, List, [], ◌∷◌, ◌++◌, true, false, Some, None, Ok, Err, refl, sym, subst, codes}
 use Rattle.std.specs.Str.{is_utf8, chars}
 use Rattle.std.specs.Str.Lossy.{utf8_valid_len}
 use Rattle.std.specs.Char.{encode_utf8}
 use Rattle.std.specs.Fmt.{digits}
 use Rattle.nfg_text.specs.Graphemes.{graphemes_of}
-use Rattle.nfg_decode.specs.declared.encoding.Encoding.TheVariants.{Utf8, Latin1}
+use Rattle.nfg_decode.specs.declared.encoding.Encoding.TheVariants.{Utf8}
 use Rattle.nfg_decode.specs.Utf8.{decode_utf8}
 use Rattle.nfg_decode.specs.Encoding.{decode}
 use Rattle.nfg_script.specs.declared.command.Command.{Command}
-use Rattle.nfg_script.specs.declared.command.Command.TheVariants.{Load, Text, Sub, Len, Show, Shape, Put}
+use Rattle.nfg_script.specs.declared.command.Command.TheVariants.{Load, Len, Show}
 use Rattle.nfg_script.specs.declared.error.Reason.TheVariants.{BadCommand}
-use Rattle.nfg_script.specs.declared.error.ScriptError.TheVariants.{TooLong as ScriptTooLong, Line}
+use Rattle.nfg_script.specs.declared.error.ScriptError.TheVariants.{Line}
 use Rattle.nfg_script.specs.Script.{NumberedCommand}
-use Rattle.nfg_script.specs.Grammar.{parse}
-use Rattle.nfg_work.specs.declared.output.Cause.TheVariants.{CannotRead, FileTooLong, Malformed, OutOfRange, NotEncodable, AllTooLong, ClusterTooLong, TableFull, OutputTooLong}
-use Rattle.nfg_work.specs.declared.output.FileRead.{FileRead}
+use Rattle.nfg_work.specs.declared.output.Cause.TheVariants.{Malformed, NotEncodable, ClusterTooLong}
 use Rattle.nfg_work.specs.declared.output.FileRead.TheVariants.{Bytes, TooLong, Failed}
 use Rattle.nfg_work.specs.declared.output.Output.{Output}
 use Rattle.nfg_work.specs.Evaluation.{evaluate, evaluate_from, define_new, first_state}

@@ -1,5 +1,5 @@
 -- What was taken of the output, write after write.
-use Rattle.std.proofs.Common.{◌≡◌, ℕ, ◌+◌, ◌-◌, ◌≤◌, List, ◌++◌, length, take, drop, Option, Some, None, sym, ap, ◌∙◌, append_assoc, arith, length-drop, length-take}
+use Rattle.std.proofs.Common.{◌≡◌, ℕ, ◌+◌, ◌≤◌, List, ◌++◌, length, take, drop, Option, Some, None, sym, ap, ◌∙◌, append_assoc, arith, length-drop, length-take}
 use Rattle.std.proofs.Math.Seq.{take-take}
 use Rattle.nfg_io.specs.Sink.{Grew}
 use Rattle.nfg_run.proofs.Fronts.{take-more}

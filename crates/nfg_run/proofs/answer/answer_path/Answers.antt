@@ -1,4 +1,4 @@
-use Rattle.std.proofs.Common.{◌≡◌, ◌≢◌, [], Some, None, Ok, Err, refl, sym, ap, ◌∙◌, lit≤, rules}
+use Rattle.std.proofs.Common.{◌≡◌, ◌≢◌, [], Ok, Err, refl, sym, ap, ◌∙◌, lit≤, rules}
 use Rattle.nfg_script.specs.declared.error.ScriptError.TheVariants.{OutOfMemory}
 use Rattle.nfg_script.specs.Script.{load_paths}
 use Rattle.nfg_script.specs.Grammar.{parse}

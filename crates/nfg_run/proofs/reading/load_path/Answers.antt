@@ -1,4 +1,4 @@
-use Rattle.std.proofs.Common.{false, true, ◌≡◌, sym, ◌∙◌, ◌+◌, suc, arith}
+use Rattle.std.proofs.Common.{false, true, ◌≡◌, ◌+◌, suc, arith}
 use Rattle.nfg_script.specs.Script.{is_load}
 use Rattle.nfg_run.proofs.Loads.{load_paths-at_load, load_paths-at_other}
 use Rattle.nfg_run.proofs.reading.load_path.Goals as goal

@@ -1,4 +1,4 @@
-use Rattle.std.proofs.Common.{◌≡◌, ◌<◌, ◌≤◌, length, refl, rules}
+use Rattle.std.proofs.Common.{◌<◌, ◌≤◌, length, refl, rules}
 use Rattle.nfg_run.proofs.ReadLemmas.{HasFile-too_long, HasFile-whole, most_after, within-limit}
 use Rattle.nfg_run.proofs.reading.read_load.Goals as goal
 

@@ -1,7 +1,6 @@
-use Rattle.std.proofs.Common.{◌≡◌, ◌≤◌, ◌∷◌, [], ◌+◌, drop, length, List, ℕ, Option, Some, None, IfSome, refl, sym, subst, ap, ◌∙◌, arith}
-use Rattle.nfg_io.specs.Files.{Contents, HasFailedAt}
+use Rattle.std.proofs.Common.{◌≤◌, ◌∷◌, [], ◌+◌, drop, length, Some, IfSome, refl, sym, subst, ◌∙◌, arith}
+use Rattle.nfg_io.specs.Files.{HasFailedAt}
 use Rattle.nfg_script.specs.Script.{load_paths}
-use Rattle.nfg_work.specs.declared.output.FileRead.TheVariants.{Failed}
 use Rattle.nfg_run.specs.Headline.{failed_load}
 use Rattle.nfg_run.proofs.Answered.{HasFailedAt-earlier, IfSome-none, IfSome-some}
 use Rattle.nfg_run.proofs.Loads.{LoadsGoOn, IsNextRead, LoadsGoOn-first, LoadsGoOn-bytes, LoadsGoOn-too_long, LoadsGoOn-failed, LoadsGoOn-last}
