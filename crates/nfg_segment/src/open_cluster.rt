@@ -9,7 +9,7 @@ ghost use Rattle.nfg_segment.specs.Held.{Keeps, is_some, ends_before, closed, le
 
 use crate::ClusterSink;
 use crate::draft::{Draft, to_char};
-use nfg_text::{Kind, Memory, is_plain};
+use nfg_text::{Kind, Memory};
 use std::alloc::{AllocError, Global};
 use std::marker::Model;
 
@@ -162,7 +162,7 @@ impl OpenCluster {
     }
 
     /// Goes on with the next code point of the NFC, which is of this kind.
-    #[inline]
+    #[inline(always)]
     fn push_kind<S: ClusterSink>(
         &mut self,
         c: char,
@@ -229,7 +229,7 @@ impl OpenCluster {
         let mut row = 0;
         while at + 1 < text.len() {
             let next = Kind::of(to_char(text[at + 1]));
-            row = row_with(row, text[at + 1]);
+            row = row_with(row, next);
             if !next.starts_safely() {
                 return Ok(at);
             }
@@ -246,8 +246,8 @@ impl OpenCluster {
 
 /// How many plain code points there are in a row, with one code point more.
 #[inline]
-fn row_with(row: u32, c: u32) -> u32 {
-    if is_plain(c) {
+fn row_with(row: u32, next: Kind) -> u32 {
+    if next.is_plain() {
         row.saturating_add(1)
     } else {
         0
