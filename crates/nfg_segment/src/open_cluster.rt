@@ -162,7 +162,7 @@ impl OpenCluster {
     }
 
     /// Goes on with the next code point of the NFC, which is of this kind.
-    #[inline(always)]
+    #[inline]
     fn push_kind<S: ClusterSink>(
         &mut self,
         c: char,
@@ -206,8 +206,8 @@ impl OpenCluster {
         Ok(())
     }
 
-    /// Goes on with code points that start safely, each followed by another, and says where the last one
-    /// is, with which it does not go on. A row of plain ones is left to be taken as a whole.
+    /// Goes on with code points that start safely, each followed by another, and says where the last
+    /// one is, with which it does not go on. A row of plain ones is left to be taken as a whole.
     pub(crate) fn push_safe<S: ClusterSink>(
         &mut self,
         text: &[u32],

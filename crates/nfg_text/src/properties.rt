@@ -11,8 +11,8 @@ use ucd_breaks::GraphemeClusterBreak;
 use ucd_breaks::GraphemeClusterBreak::*;
 use ucd_derived::IndicConjunctBreak;
 
-/// The number of a code point: its break class, 16 times its conjunct value, 64 for a pictograph, and
-/// 128 where it does not start safely.
+/// The number of a code point: its break class, 16 times its conjunct value, 64 for a pictograph,
+/// and 128 where it does not start safely.
 #[inline(always)]
 pub(crate) fn properties_of(c: u32) -> u32
     requires { c < 0x11_0000 }
@@ -57,7 +57,8 @@ pub(crate) fn class_of(number: u32) -> GraphemeClusterBreak
         10 => T,
         11 => V,
         12 => Other,
-        _ => Zwj,
+        13 => Zwj,
+        _ => unreachable!(),
     }
 }
 
@@ -67,9 +68,9 @@ pub(crate) fn conjunct_of(number: u32) -> IndicConjunctBreak
     ensures { result ≡ indic_conjunct_break_from_number number }
 {
     match number {
-        0 => IndicConjunctBreak::Consonant,
-        1 => IndicConjunctBreak::Extend,
+        3 => IndicConjunctBreak::None,
         2 => IndicConjunctBreak::Linker,
-        _ => IndicConjunctBreak::None,
+        1 => IndicConjunctBreak::Extend,
+        _ => IndicConjunctBreak::Consonant,
     }
 }
