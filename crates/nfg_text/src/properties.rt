@@ -9,7 +9,7 @@ use crate::plain_table::{PLAIN_INDEX, PLAIN_TAIL, PLAIN_WORDS};
 use crate::property_table::{INDEX, TAIL, WORDS};
 use ucd_breaks::GraphemeClusterBreak;
 use ucd_breaks::GraphemeClusterBreak::*;
-use ucd_derived::IndicConjunctBreak;
+use ucd_derived::IndicConjunctBreak as Conjunct;
 
 /// The number of a code point: its break class, 16 times its conjunct value, 64 for a pictograph,
 /// and 128 where it does not start safely.
@@ -63,14 +63,15 @@ pub(crate) fn class_of(number: u32) -> GraphemeClusterBreak
 }
 
 #[inline(always)]
-pub(crate) fn conjunct_of(number: u32) -> IndicConjunctBreak
+pub(crate) fn conjunct_of(number: u32) -> Conjunct
     requires { number < 4 }
     ensures { result ≡ indic_conjunct_break_from_number number }
 {
     match number {
-        3 => IndicConjunctBreak::None,
-        2 => IndicConjunctBreak::Linker,
-        1 => IndicConjunctBreak::Extend,
-        _ => IndicConjunctBreak::Consonant,
+        0 => Conjunct::Consonant,
+        1 => Conjunct::Extend,
+        2 => Conjunct::Linker,
+        3 => Conjunct::None,
+        _ => unreachable!(),
     }
 }
