@@ -145,7 +145,7 @@ impl OpenCluster {
     }
 
     /// Goes on with a code point of the same cluster.
-    #[inline]
+    #[inline(always)]
     fn join(&mut self, c: char, kind: Kind) -> Result<(), AllocError>
         requires { IsKindOf kind c }
         ensures joined { (cluster : List ℕ) → Keeps self.old.now cluster → OnOk result (Keeps self.new.now (cluster ++ c ∷ [])) }
@@ -162,7 +162,7 @@ impl OpenCluster {
     }
 
     /// Goes on with the next code point of the NFC, which is of this kind.
-    #[inline]
+    #[inline(always)]
     fn push_kind<S: ClusterSink>(
         &mut self,
         c: char,
@@ -224,20 +224,23 @@ impl OpenCluster {
         ensures marked { self.new.marked ≡ self.old.marked }
         ensures grew { Grew (S.given out.old) (S.given out.new) }
     {
-        let mut kind = Kind::of(to_char(text[0]));
+        let mut c = to_char(text[0]);
+        let mut kind = Kind::of(c);
         let mut at = 0;
         let mut row = 0;
         while at + 1 < text.len() {
-            let next = Kind::of(to_char(text[at + 1]));
-            row = row_with(row, next);
-            if !next.starts_safely() {
+            let next = to_char(text[at + 1]);
+            let next_kind = Kind::of(next);
+            row = row_with(row, next_kind);
+            if !next_kind.starts_safely() {
                 return Ok(at);
             }
             if row > ROW {
                 return Ok(at);
             }
-            self.push_kind(to_char(text[at]), kind, out)?;
-            kind = next;
+            self.push_kind(c, kind, out)?;
+            c = next;
+            kind = next_kind;
             at += 1;
         }
         Ok(at)
