@@ -195,13 +195,13 @@ impl Held {
         ensures marked { self.new.marked ≡ self.old.marked }
         ensures grew { Grew (S.given out.old) (S.given out.new) }
     {
-        let n = unsafe_len(text);
-        if n == 0 {
+        if starts_safely(text[0]) {
             return self.take_safe(text, out);
         }
         if self.compose_last(to_char(text[0]))? {
             return Ok(1);
         }
+        let n = unsafe_len(text);
         self.hold(&text[..n])?;
         Ok(n)
     }
