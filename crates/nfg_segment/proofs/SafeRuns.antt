@@ -55,15 +55,6 @@ pub safe-first : (t : List ℕ) → 0 < length t → starts_safely (get_or t 0 0
 safe-first [] some one = absurd (omega arith)
 safe-first (c ∷ cs) some one = and_from _ _ one refl
 
-pub none-first : (t : List ℕ) (n : ℕ) → 0 < n → n ≤ length t → none_safe (take n t) ≡ true → starts_safely (get_or t 0 0) ≡ false
-none-first t zero some within none = absurd (omega arith)
-none-first [] (suc n) some within none = absurd (omega arith)
-none-first (c ∷ cs) (suc n) some within none = not_true (starts_safely c) (and_parts (not (starts_safely c)) (none_safe (take n cs)) none).0
-  where
-    not_true : (b : Bool) → not b ≡ true → b ≡ false
-    not_true false h = refl
-    not_true true h = cc
-
 pub none-more : (t : List ℕ) (n : ℕ) → n < length t → none_safe (take n t) ≡ true → starts_safely (get_or t n 0) ≡ false → none_safe (take (n + 1) t) ≡ true
 none-more t n within none one = ap none_safe (take_more t n 0 within) ∙ push (take n t) (get_or t n 0) none one
   where

@@ -115,8 +115,8 @@ impl Held {
         Some(c)
     }
 
-    /// Composes the tail, and goes on with it and with what begins the text, up to the last of the code points at its
-    /// front that start safely. Says where that one is.
+    /// Composes the tail, and goes on with it and with what begins the text, up to the last of the
+    /// code points at its front that start safely. Says where that one is.
     fn settle_safe<S: ClusterSink>(
         &mut self,
         text: &[u32],
@@ -162,8 +162,8 @@ impl Held {
         Ok(at + 1)
     }
 
-    /// Goes on with a code point that composes with the one that is the tail. Says whether it does; if
-    /// not, nothing is done.
+    /// Goes on with a code point that composes with the one that is the tail. Says whether it does;
+    /// if not, nothing is done.
     fn compose_last(&mut self, c: char) -> Result<bool, AllocError>
         ensures follows { (fed : List ℕ) (given : List (List ℕ)) → starts_safely c ≡ false → Follows self.old.now fed given
             → IfOk result (λ done. IsTrue done → Follows self.new.now (fed ++ c ∷ []) given) }
@@ -195,13 +195,13 @@ impl Held {
         ensures marked { self.new.marked ≡ self.old.marked }
         ensures grew { Grew (S.given out.old) (S.given out.new) }
     {
-        let n = unsafe_len(text);
-        if n == 0 {
+        if starts_safely(text[0]) {
             return self.take_safe(text, out);
         }
         if self.compose_last(to_char(text[0]))? {
             return Ok(1);
         }
+        let n = unsafe_len(text);
         self.hold(&text[..n])?;
         Ok(n)
     }

@@ -9,7 +9,7 @@ ghost use Rattle.nfg_segment.specs.Held.{Keeps, is_some, ends_before, closed, le
 
 use crate::ClusterSink;
 use crate::draft::{Draft, to_char};
-use nfg_text::{Kind, Memory, is_plain};
+use nfg_text::{Kind, Memory};
 use std::alloc::{AllocError, Global};
 use std::marker::Model;
 
@@ -145,7 +145,7 @@ impl OpenCluster {
     }
 
     /// Goes on with a code point of the same cluster.
-    #[inline]
+    #[inline(always)]
     fn join(&mut self, c: char, kind: Kind) -> Result<(), AllocError>
         requires { IsKindOf kind c }
         ensures joined { (cluster : List ℕ) → Keeps self.old.now cluster → OnOk result (Keeps self.new.now (cluster ++ c ∷ [])) }
@@ -162,7 +162,7 @@ impl OpenCluster {
     }
 
     /// Goes on with the next code point of the NFC, which is of this kind.
-    #[inline]
+    #[inline(always)]
     fn push_kind<S: ClusterSink>(
         &mut self,
         c: char,
@@ -206,8 +206,8 @@ impl OpenCluster {
         Ok(())
     }
 
-    /// Goes on with code points that start safely, each followed by another, and says where the last one
-    /// is, with which it does not go on. A row of plain ones is left to be taken as a whole.
+    /// Goes on with code points that start safely, each followed by another, and says where the last
+    /// one is, with which it does not go on. A row of plain ones is left to be taken as a whole.
     pub(crate) fn push_safe<S: ClusterSink>(
         &mut self,
         text: &[u32],
@@ -224,20 +224,23 @@ impl OpenCluster {
         ensures marked { self.new.marked ≡ self.old.marked }
         ensures grew { Grew (S.given out.old) (S.given out.new) }
     {
-        let mut kind = Kind::of(to_char(text[0]));
+        let mut c = to_char(text[0]);
+        let mut kind = Kind::of(c);
         let mut at = 0;
         let mut row = 0;
         while at + 1 < text.len() {
-            let next = Kind::of(to_char(text[at + 1]));
-            row = row_with(row, text[at + 1]);
-            if !next.starts_safely() {
+            let next = to_char(text[at + 1]);
+            let next_kind = Kind::of(next);
+            row = row_with(row, next_kind);
+            if !next_kind.starts_safely() {
                 return Ok(at);
             }
             if row > ROW {
                 return Ok(at);
             }
-            self.push_kind(to_char(text[at]), kind, out)?;
-            kind = next;
+            self.push_kind(c, kind, out)?;
+            c = next;
+            kind = next_kind;
             at += 1;
         }
         Ok(at)
@@ -246,8 +249,8 @@ impl OpenCluster {
 
 /// How many plain code points there are in a row, with one code point more.
 #[inline]
-fn row_with(row: u32, c: u32) -> u32 {
-    if is_plain(c) {
+fn row_with(row: u32, next: Kind) -> u32 {
+    if next.is_plain() {
         row.saturating_add(1)
     } else {
         0

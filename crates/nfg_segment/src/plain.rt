@@ -39,7 +39,8 @@ fn plain_up_to(text: &[u32], from: usize, end: usize) -> usize
     at
 }
 
-/// How many plain code points the text begins with, of which `from` are known, in whole blocks from there on.
+/// How many plain code points the text begins with, of which `from` are known, in whole blocks from
+/// there on.
 fn plain_blocks(text: &[u32], from: usize) -> usize
     requires from { from ≤ length text.now }
     requires known { AllPlain (take from text.now) }

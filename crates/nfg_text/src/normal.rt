@@ -36,8 +36,8 @@ pub fn starts_safely(c: u32) -> bool
     properties_of(c) < 128
 }
 
-/// Whether the code point is plain: it starts safely, and no rule holds two such code points together. Between two of
-/// them a text is always settled.
+/// Whether the code point is plain: it starts safely, and no rule holds two such code points
+/// together. Between two of them a text is always settled.
 #[inline]
 pub fn is_plain(c: u32) -> bool
     ensures { result ≡ is_plain c }
@@ -114,12 +114,13 @@ pub fn append_nfc(into: &mut Vec<char>, text: &[char]) -> Result<(), AllocError>
     extend_nfc(into, text)
 }
 
-/// The code point that two neighbors compose to, where they do, which may stand in their place at the front of a
-/// text.
+/// The code point that two neighbors compose to, where they do, which may stand in their place at
+/// the front of a text.
 #[inline]
 pub fn compose_pair(first: char, second: char) -> Option<char>
     ensures composite { result ≡ primary_composite first second }
-    ensures in_place { IfSome result (λ c. (rest : List ℕ) → nfc (c ∷ rest) ≡ nfc (first ∷ second ∷ rest)) }
+    ensures in_place { IfSome result (λ c. (rest : List ℕ)
+        → nfc (c ∷ rest) ≡ nfc (first ∷ second ∷ rest)) }
 {
     compose(first, second)
 }

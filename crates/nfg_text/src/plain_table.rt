@@ -1,4 +1,4 @@
-//! Which code points of the first plane are plain, a bit each: a trie in the form that `ucd_table` reads.
+//! Which code points of the first plane are plain, a bit each: a trie for `ucd_table::get`.
 
 #[rattlefmt::skip]
 pub(crate) static PLAIN_INDEX: [u8; 16] = [

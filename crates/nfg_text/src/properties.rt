@@ -9,10 +9,10 @@ use crate::plain_table::{PLAIN_INDEX, PLAIN_TAIL, PLAIN_WORDS};
 use crate::property_table::{INDEX, TAIL, WORDS};
 use ucd_breaks::GraphemeClusterBreak;
 use ucd_breaks::GraphemeClusterBreak::*;
-use ucd_derived::IndicConjunctBreak;
+use ucd_derived::IndicConjunctBreak as Conjunct;
 
-/// The number of a code point: its break class, 16 times its conjunct value, 64 for a pictograph, and
-/// 128 where it does not start safely.
+/// The number of a code point: its break class, 16 times its conjunct value, 64 for a pictograph,
+/// and 128 where it does not start safely.
 #[inline(always)]
 pub(crate) fn properties_of(c: u32) -> u32
     requires { c < 0x11_0000 }
@@ -57,19 +57,21 @@ pub(crate) fn class_of(number: u32) -> GraphemeClusterBreak
         10 => T,
         11 => V,
         12 => Other,
-        _ => Zwj,
+        13 => Zwj,
+        _ => unreachable!(),
     }
 }
 
 #[inline(always)]
-pub(crate) fn conjunct_of(number: u32) -> IndicConjunctBreak
+pub(crate) fn conjunct_of(number: u32) -> Conjunct
     requires { number < 4 }
     ensures { result ≡ indic_conjunct_break_from_number number }
 {
     match number {
-        0 => IndicConjunctBreak::Consonant,
-        1 => IndicConjunctBreak::Extend,
-        2 => IndicConjunctBreak::Linker,
-        _ => IndicConjunctBreak::None,
+        0 => Conjunct::Consonant,
+        1 => Conjunct::Extend,
+        2 => Conjunct::Linker,
+        3 => Conjunct::None,
+        _ => unreachable!(),
     }
 }

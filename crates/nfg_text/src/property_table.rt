@@ -1,4 +1,4 @@
-//! The properties that this crate reads of each code point, in a byte each: a trie in the form that `ucd_table` reads.
+//! What this crate reads of each code point, a byte each: a trie for `ucd_table::get`.
 
 #[rattlefmt::skip]
 pub(crate) static INDEX: [u8; 2048] = [

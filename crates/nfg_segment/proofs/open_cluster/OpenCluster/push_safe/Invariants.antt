@@ -10,7 +10,8 @@ invariant-loop-at g l = record {
       → (Keeps l.self.now (next_all cluster (take l.at l.text)))
       × (g.S.ClusterSink.given l.out ≡ with_clusters (g.S.ClusterSink.given l.initial.out) (closed_all cluster (take l.at l.text)));
   within : l.at < length l.text;
-  kind : IsKindOf l.kind (get_or l.text l.at 0);
+  here : l.c ≡ get_or l.text l.at 0;
+  kind : IsKindOf l.kind l.c;
   safe : all_safe (take (l.at + 1) l.text) ≡ true;
   marked : l.self.marked ≡ l.initial.self.marked;
   grew : Grew (g.S.ClusterSink.given l.initial.out) (g.S.ClusterSink.given l.out);
