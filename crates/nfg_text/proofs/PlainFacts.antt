@@ -1,5 +1,5 @@
 -- Plain code points stand apart.
-use Rattle.std.proofs.Common.{◌≡◌, ℕ, Bool, true, false, not, ◌&&◌, nat_lt, refl}
+use Rattle.std.proofs.Common.{◌≡◌, Bool, true, false, not, ◌&&◌, nat_lt, refl}
 use Rattle.std.proofs.lemmas.Bool.{and_parts}
 use Rattle.ucd_breaks.specs.GraphemeClusterBreak.{grapheme_cluster_break}
 use Rattle.ucd_derived.specs.IndicConjunctBreak.{indic_conjunct_break}

@@ -1,5 +1,4 @@
 use Rattle.std.proofs.Common.{◌+◌, ◌++◌, ◌∙◌, subst, take, sym, ap, append_assoc}
-use Rattle.nfg_text.specs.Breaks.{IsKindOf}
 use Rattle.nfg_text.specs.Graphemes.{starts_safely}
 use Rattle.nfg_segment.specs.Held.{Keeps, next_all}
 use Rattle.nfg_segment.proofs.Machine.{next_all-more, closed_all-more}

@@ -1,4 +1,4 @@
-use Rattle.std.proofs.Common.{◌≡◌, ◌&&◌, not, sym, ap, ap₂, ◌∙◌, lt-ltb}
+use Rattle.std.proofs.Common.{◌&&◌, not, sym, ap, ap₂, ◌∙◌, lt-ltb}
 use Rattle.nfg_text.specs.Graphemes.{starts_safely}
 use Rattle.nfg_text.specs.Plain.{is_plain, is_none, is_ordinary, stands_apart}
 use Rattle.nfg_text.proofs.breaks.Kind.is_plain.Goals as goal

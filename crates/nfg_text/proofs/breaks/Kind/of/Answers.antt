@@ -1,5 +1,4 @@
-use Rattle.std.proofs.Common.{◌/◌, ◌%◌, ◌<◌, ◌==◌, nat_lt, ap, ◌∙◌, arith}
-use Rattle.std.proofs.lemmas.Nat.{mod_below}
+use Rattle.std.proofs.Common.{◌/◌, ◌%◌, ◌==◌, nat_lt, ap, ◌∙◌, arith}
 use Rattle.ucd_breaks.specs.GraphemeClusterBreak.{grapheme_cluster_break, grapheme_cluster_break_from_number}
 use Rattle.ucd_breaks.proofs.GraphemeClusterBreakLemmas.{grapheme_cluster_break_number-lt}
 use Rattle.ucd_derived.specs.IndicConjunctBreak.{indic_conjunct_break_from_number}
