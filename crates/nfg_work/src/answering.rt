@@ -66,5 +66,12 @@ pub(crate) fn print_put(
 {
     let nothing = NString::empty(alloc);
     let string = string_of_name(&held.strings, a, &nothing);
-    put(alloc, &held.table, &mut held.pass, string, e, &mut held.output)
+    put(
+        alloc,
+        &held.table,
+        &mut held.pass,
+        string,
+        e,
+        &mut held.output,
+    )
 }

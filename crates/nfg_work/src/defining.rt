@@ -119,12 +119,7 @@ fn load_bytes(
 }
 
 /// The next name gets the text of a file's bytes.
-fn load_file(
-    alloc: Global,
-    held: &mut Evaluation,
-    e: Encoding,
-    bytes: &[u8],
-) -> Result<(), Stop>
+fn load_file(alloc: Global, held: &mut Evaluation, e: Encoding, bytes: &[u8]) -> Result<(), Stop>
     requires table { IsOwnPass held.old.table held.old.pass }
     requires limit { length bytes.now ≤ 67108864 }
     ensures { (places : ℕ) (reads : List FileRead) (state : State) → Holds places reads held.old state
@@ -179,7 +174,12 @@ pub(crate) fn sub(
         → Follows places reads held.old held.new result (define_part state (value_of state a) start count) }
 {
     let nothing = NString::empty(alloc);
-    let part = match substring(alloc, string_of_name(&held.strings, a, &nothing), start, count) {
+    let part = match substring(
+        alloc,
+        string_of_name(&held.strings, a, &nothing),
+        start,
+        count,
+    ) {
         Ok(part) => part,
         Err(SubError::OutOfRange) => return Err(Stop::Refused(Cause::OutOfRange)),
         Err(SubError::OutOfMemory) => return Err(Stop::OutOfMemory),

@@ -106,12 +106,7 @@ fn gather(
 }
 
 /// Writes the bytes of the text in the encoding.
-fn write(
-    alloc: Global,
-    e: Encoding,
-    codes: &[u32],
-    output: &mut ByteList,
-) -> Result<(), Stop>
+fn write(alloc: Global, e: Encoding, codes: &[u32], output: &mut ByteList) -> Result<(), Stop>
     requires text { IsText codes.now }
     ensures { Prints output.old output.new result (encode e codes.now) }
 {

@@ -19,9 +19,11 @@ returns-then-is_over c = λ places reads state h.
     (c.string_of_name.ensures ∙ ap (λ v. slice_index_or v c.args.a nothing) c.deref.ensures.value) in
     let inside = part_inside string c.args.start c.in-Ok.part c.in-Ok.ensures.out_of_range.1 in
     let is_part = part_is places c.args.held.now.pass.texts string c.in-Ok.part (value_of state c.args.a) c.args.start c.args.count h.table.lawful is inside
-    c.in-Ok.ensures.graphemes c.in-Ok.ensures.pieces in
-    (part_over places c.len-cost.result reads c.args.held.now state string c.in-Ok.part (value_of state c.args.a) c.args.start c.args.count h is inside is_part
-    c.len-cost.ensures.len (sym c.if-is_over.ensures), refl)
+    c.in-Ok.ensures.graphemes c.in-Ok.ensures.pieces in (
+      part_over places c.len-cost.result reads c.args.held.now state string c.in-Ok.part (value_of state c.args.a) c.args.start c.args.count h is inside is_part
+          c.len-cost.ensures.len (sym c.if-is_over.ensures),
+      refl,
+    )
 
 pub returns : goal.returns
 returns c = λ places reads state h.
