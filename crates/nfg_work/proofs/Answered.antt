@@ -24,8 +24,7 @@ pub printed_follows : (places : ℕ) (reads : List FileRead) (old : Evaluation) 
     → Holds places reads old state → IsOwnPass places pass → pass.texts ≡ old.pass.texts → Prints old.output output result bytes
     → Follows places reads old (record old { pass = pass; output = output }) result (print state bytes)
 printed_follows places reads old pass output (Ok done) state bytes h own same p =
-    let fits = over_same places reads old state bytes h ∙ p.0 in
-    (
+    let fits = over_same places reads old state bytes h ∙ p.0 in (
       record state { output = state.output ++ bytes },
       rw fits refl,
       record {

@@ -69,8 +69,7 @@ made_follows places cost reads old new pass string (Ok done) clusters state h fi
       pieces = made.pieces ∙ flat_same places pass.texts table.lawful string.graphemes clusters made.represents;
     } in
     let strings = AreStringsOf-push pass.texts old.strings.items state.values string (flat clusters)
-    (AreStringsOf-grows old.pass.texts pass.texts keeps.known old.strings.items state.values h.strings) is in
-    (
+    (AreStringsOf-grows old.pass.texts pass.texts keeps.known old.strings.items state.values h.strings) is in (
       defined_state state cost clusters,
       define_new-ok places state cost clusters fit made.short few,
       record {

@@ -165,6 +165,7 @@ used_over size old new used front rest cluster are in_use learned unknown needs 
         is_place : (q : List ℕ) → (k : ℕ) × (slice_get (cluster ∷ []) k ≡ Some q) → takes_place cluster ≡ true → takes_place q ≡ true
         is_place q (zero, e) place = ap takes_place (sym (same_text cluster q e)) ∙ place
         is_place q (suc k, e) place = cc
+
     among : (q : List ℕ) → takes_place cluster ≡ true → (is_member bytes_eq new q || is_member bytes_eq (cluster ∷ []) q) ≡ true
         → is_member bytes_eq (used ++ filter takes_place (front ++ cluster ∷ rest)) q ≡ true
     among q place holds = by (is_member bytes_eq new q) refl holds

@@ -105,6 +105,7 @@ spelled_text size pass (n ∷ ns) (c ∷ cs) own are = scalars-append c (concat 
     scalars-append : (xs ys : List ℕ) → all_scalars xs ≡ true → all_scalars ys ≡ true → all_scalars (xs ++ ys) ≡ true
     scalars-append [] ys first second = second
     scalars-append (x ∷ xs) ys first second = let both = and_parts (is_scalar x) (all_scalars xs) first in and_from (is_scalar x) (all_scalars (xs ++ ys)) both.0 (scalars-append xs ys both.1 second)
+
     one : (size : ℕ) (pass : OwnTexts) (n : ℤ) (c : List ℕ) → IsOwnPass size pass → spelling (known_of pass.texts) n ≡ Some c → all_scalars c ≡ true
     one size pass (pos p) c own e = let is = spelling-one (known_of pass.texts) p c e in ap all_scalars is.1 ∙ and_from (is_scalar p) true is.0 refl
     one size pass (negsuc m) c own e = (numbers_of size pass.texts own.lawful m c e).1.text

@@ -133,8 +133,7 @@ pub part_follows : (places cost : ℕ) (reads : List FileRead) (old new : Evalua
     → Follows places reads old new result (define_part state value start count)
 part_follows places cost reads old new state string made value start count (Ok done) h is inside is_part cost_is fits d none =
     let long = Represents-length (known_of old.pass.texts) made.graphemes (part value start count).clusters is_part.represents in
-    let few = spent_with state.spent old.spent cost (length (part value start count).clusters) false h.spent (cost_is ∙ long) fits in
-    (
+    let few = spent_with state.spent old.spent cost (length (part value start count).clusters) false h.spent (cost_is ∙ long) fits in (
       record state { values = state.values ++ part value start count ∷ []; spent = state.spent + length (part value start count).clusters },
       rw (inside_test old.pass.texts string value start is inside, few) refl,
       record {

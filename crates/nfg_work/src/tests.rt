@@ -25,9 +25,11 @@ fn refused(line: u32, cause: Cause) -> Option<RefusedLine> {
 
 #[test]
 fn commands_answer_in_order(rt: HostRuntime) -> Result<(), Fail> {
-    let script = b"text a 65 301 D A 71 307 323 61\nlen a\nshow a\nshape a\nsub b a 1 2\nshow b\nshape b\ntext e\nshow e\nshape e\n";
+    let script =
+        b"text a 65 301 D A 71 307 323 61\nlen a\nshow a\nshape a\nsub b a 1 2\nshow b\nshape b\ntext e\nshow e\nshape e\n";
     let output = output_of(rt.alloc(), script.as_slice(), &[])?;
-    let wanted = b"4\nE9 D+A 71+323+307 61\nstrands 1 4x1/32\nD+A 71+323+307\nstrands 1 2x1/32\n\nstrands 0\n";
+    let wanted =
+        b"4\nE9 D+A 71+323+307 61\nstrands 1 4x1/32\nD+A 71+323+307\nstrands 1 2x1/32\n\nstrands 0\n";
     assert!(rt; output.bytes.as_slice() == wanted.as_slice());
     assert!(rt; output.refused == None);
     Ok(())
@@ -44,9 +46,11 @@ fn a_part_past_the_end_is_refused(rt: HostRuntime) -> Result<(), Fail> {
 
 #[test]
 fn bytes_are_put_in_each_encoding(rt: HostRuntime) -> Result<(), Fail> {
-    let script = b"text a E9 1F600\nput a utf8\nput a utf16\nput a utf16le\nput a utf16be\ntext b 61 E9\nput b latin1\nput a latin1\n";
+    let script =
+        b"text a E9 1F600\nput a utf8\nput a utf16\nput a utf16le\nput a utf16be\ntext b 61 E9\nput b latin1\nput a latin1\n";
     let output = output_of(rt.alloc(), script.as_slice(), &[])?;
-    let wanted = b"\xC3\xA9\xF0\x9F\x98\x80\xFE\xFF\x00\xE9\xD8\x3D\xDE\x00\xE9\x00\x3D\xD8\x00\xDE\x00\xE9\xD8\x3D\xDE\x00a\xE9";
+    let wanted =
+        b"\xC3\xA9\xF0\x9F\x98\x80\xFE\xFF\x00\xE9\xD8\x3D\xDE\x00\xE9\x00\x3D\xD8\x00\xDE\x00\xE9\xD8\x3D\xDE\x00a\xE9";
     assert!(rt; output.bytes.as_slice() == wanted.as_slice());
     assert!(rt; output.refused == refused(8, Cause::NotEncodable { at: 1 }));
     Ok(())
@@ -54,7 +58,8 @@ fn bytes_are_put_in_each_encoding(rt: HostRuntime) -> Result<(), Fail> {
 
 #[test]
 fn the_seventeenth_cluster_finds_the_table_full(rt: HostRuntime) -> Result<(), Fail> {
-    let script = b"text a 71 300\ntext b 71 301\ntext c 71 302\ntext d 71 303\ntext e 71 304\ntext f 71 306\ntext g 71 307\ntext h 71 308\ntext i 71 309\ntext j 71 30A\ntext k 71 30B\ntext l 71 30C\ntext m 71 30F\ntext n 71 311\ntext o 71 323\ntext p 71 324\ntext q D A 71 300\nlen q\ntext r 71 325\nlen r\n";
+    let script =
+        b"text a 71 300\ntext b 71 301\ntext c 71 302\ntext d 71 303\ntext e 71 304\ntext f 71 306\ntext g 71 307\ntext h 71 308\ntext i 71 309\ntext j 71 30A\ntext k 71 30B\ntext l 71 30C\ntext m 71 30F\ntext n 71 311\ntext o 71 323\ntext p 71 324\ntext q D A 71 300\nlen q\ntext r 71 325\nlen r\n";
     let output = output_of(rt.alloc(), script.as_slice(), &[])?;
     assert!(rt; output.bytes.as_slice() == b"2\n".as_slice());
     assert!(rt; output.refused == refused(19, Cause::TableFull));

@@ -9,8 +9,7 @@ use Rattle.nfg_work.proofs.printing.show.Goals as goal
 
 pub show_part-requires-clause-known : goal.show_part-requires-clause-known
 show_part-requires-clause-known c =
-    let count = c.min-count.result in
-    (
+    let count = c.min-count.result in (
       take count (drop c.showing.at c.requires.known.0),
       part_represents c.args.pass.now.texts c.showing.pass.texts c.args.string.now.graphemes c.copy_into.new.into c.showing.numbers c.requires.known.0 c.showing.at count
           c.showing.invariant.texts (omega (arith, c.min-count.ensures, c.min-count.array_long)) (omega (arith, c.min-count.ensures, c.len-len.ensures.len, c.showing-test.true))

@@ -10,8 +10,7 @@ use Rattle.nfg_work.proofs.put.gather.Goals as goal
 
 pub gather_part-requires-clause-known : goal.gather_part-requires-clause-known
 gather_part-requires-clause-known c =
-    let count = c.min-count.result in
-    (
+    let count = c.min-count.result in (
       take count (drop c.gathering.at c.requires.known.0),
       part_represents c.args.pass.now.texts c.gathering.pass.texts c.args.string.now.graphemes c.copy_into.new.into c.gathering.numbers c.requires.known.0 c.gathering.at count
           c.gathering.invariant.texts (omega (arith, c.min-count.ensures, c.min-count.array_long)) (omega (arith, c.min-count.ensures, c.len-len.ensures.len, c.gathering-test.true))
@@ -56,6 +55,7 @@ pub returns-clause-gathered : goal.returns-clause-gathered
 returns-clause-gathered c = λ clusters are.
     let all : length clusters ≤ c.gathering.at =
     omega (arith, c.gathering-test.false, c.len-len.ensures.len, Represents-length (known_of c.args.pass.now.texts) c.args.string.now.graphemes clusters are) in
-    let whole = take-whole clusters c.gathering.at all in
-    (ap (first_lacking c.args.e) (sym whole) ∙ c.gathering.invariant.had clusters are,
-    c.gathering.invariant.codes clusters are ∙ ap (λ v. c.args.codes.now ++ text_of v) whole)
+    let whole = take-whole clusters c.gathering.at all in (
+      ap (first_lacking c.args.e) (sym whole) ∙ c.gathering.invariant.had clusters are,
+      c.gathering.invariant.codes clusters are ∙ ap (λ v. c.args.codes.now ++ text_of v) whole,
+    )

@@ -65,6 +65,7 @@ pub returns-clause-gathered : goal.returns-clause-gathered
 returns-clause-gathered c = λ clusters are.
     let all : length clusters ≤ c.gathering.i =
     omega (arith, c.gathering-test.false, Represents-length (known_of c.args.pass.now.texts) c.args.numbers.now clusters are) in
-    let whole = take-whole clusters c.gathering.i all in
-    (ap (first_lacking c.args.e) (sym whole) ∙ c.gathering.invariant.had clusters are,
-    c.gathering.invariant.codes clusters are ∙ ap (λ v. c.args.codes.now ++ text_of v) whole)
+    let whole = take-whole clusters c.gathering.i all in (
+      ap (first_lacking c.args.e) (sym whole) ∙ c.gathering.invariant.had clusters are,
+      c.gathering.invariant.codes clusters are ∙ ap (λ v. c.args.codes.now ++ text_of v) whole,
+    )
