@@ -1,3 +1,4 @@
+mod Examples
 pub mod Learned
 pub mod Holding
 pub mod Numbered

@@ -30,15 +30,15 @@ fn push_utf8(bytes: &mut ByteList, code: u32) -> Result<(), AllocError> {
     if code < 0x80 {
         bytes.append(&[code as u8])
     } else if code < 0x800 {
-        bytes.append(&[0xC0 | (code >> 6) as u8, trailing(code)])
+        bytes.append(&[0xC0 | ((code >> 6) & 31) as u8, trailing(code)])
     } else if code < 0x1_0000 {
         bytes.append(&[
-            0xE0 | (code >> 12) as u8,
+            0xE0 | ((code >> 12) & 15) as u8,
             trailing(code >> 6),
             trailing(code),
         ])
     } else {
-        let high = [0xF0 | (code >> 18) as u8, trailing(code >> 12)];
+        let high = [0xF0 | ((code >> 18) & 7) as u8, trailing(code >> 12)];
         bytes.append(&high)?;
         bytes.append(&[trailing(code >> 6), trailing(code)])
     }
@@ -60,7 +60,7 @@ fn push_utf16(bytes: &mut ByteList, code: u32, is_big: bool) -> Result<(), Alloc
 
 fn push_unit(bytes: &mut ByteList, unit: u32, is_big: bool) -> Result<(), AllocError> {
     let low = (unit & 0xFF) as u8;
-    let high = (unit >> 8) as u8;
+    let high = ((unit >> 8) & 0xFF) as u8;
     if is_big {
         bytes.append(&[high, low])
     } else {

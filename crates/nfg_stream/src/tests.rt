@@ -74,10 +74,10 @@ static ENCODINGS: [Encoding; 5] = [
 fn hard_texts_have_their_graphemes_at_every_cut(rt: HostRuntime) -> Result<(), Fail> {
     let alloc = rt.alloc();
     let (table, mut pass) = OwnTable::new(alloc, 1024)?;
-    for (text, clusters) in ROWS {
+    'rows: for (text, clusters) in ROWS {
         let graphemes = numbers_of(&rt, alloc, &table, &mut pass, clusters)?;
         check_text(&rt, alloc, &table, &mut pass, text, &graphemes)?;
-        for encoding in ENCODINGS {
+        'encodings: for encoding in ENCODINGS {
             check_encoding(&rt, alloc, &table, &mut pass, encoding, text, &graphemes)?;
         }
     }
@@ -96,7 +96,7 @@ fn numbers_of(
     ensures { IsOwnPass table.now pass.new }
 {
     let mut numbers = Vec::new(alloc);
-    for cluster in clusters {
+    'clusters: for cluster in clusters {
         numbers.push(number_of(rt, alloc, table, pass, cluster)?)?;
     }
     Ok(numbers)
@@ -172,7 +172,7 @@ fn check_encoding(
     ensures { IsOwnPass table.now pass.new }
 {
     if let Some(bytes) = encoded(alloc, encoding, text)? {
-        for first in 0..bytes.len() + 1 {
+        'cuts: for first in 0..bytes.len() + 1 {
             check_cuts(
                 rt,
                 alloc,
@@ -207,13 +207,57 @@ fn check_cuts(
     } else {
         first
     };
-    for second in first..last + 1 {
-        match load(rt, alloc, table, pass, encoding, bytes, [first, second])? {
-            Ok(string) => check_string(rt, &string, graphemes)?,
-            Err(_) => Err("refused")?,
+    'cuts: for second in first..last {
+        check_load(
+            rt,
+            alloc,
+            table,
+            pass,
+            encoding,
+            bytes,
+            [first, second],
+            graphemes,
+            None,
+        )?;
+    }
+    check_load(
+        rt,
+        alloc,
+        table,
+        pass,
+        encoding,
+        bytes,
+        [first, last],
+        graphemes,
+        None,
+    )
+}
+
+/// The bytes, cut at these two places, have these graphemes, or are refused so.
+fn check_load(
+    rt: &impl Abort,
+    alloc: Global,
+    table: &OwnTable,
+    pass: &mut OwnPass,
+    encoding: Encoding,
+    bytes: &[u8],
+    cuts: [usize; 2],
+    graphemes: &[i32],
+    refused: Option<LoadError>,
+) -> Result<(), Fail>
+    requires { IsOwnPass table.now pass.old }
+    ensures { IsOwnPass table.now pass.new }
+{
+    match load(rt, alloc, table, pass, encoding, bytes, cuts)? {
+        Ok(string) => {
+            assert!(rt; refused.is_none());
+            check_string(rt, &string, graphemes)
+        }
+        Err(error) => {
+            assert_eq!(rt; refused, Some(error));
+            Ok(())
         }
     }
-    Ok(())
 }
 
 /// What comes of the bytes, cut at these two places.
@@ -256,19 +300,38 @@ static MALFORMED: [(Encoding, &[u8], u64); 8] = [
 fn malformed_bytes_are_refused_at_every_cut(rt: HostRuntime) -> Result<(), Fail> {
     let alloc = rt.alloc();
     let (table, mut pass) = OwnTable::new(alloc, 16)?;
-    for (encoding, bytes, at) in MALFORMED {
-        for first in 0..bytes.len() + 1 {
-            let answer = load(
-                &rt,
-                alloc,
-                &table,
-                &mut pass,
-                encoding,
-                bytes,
-                [first, bytes.len()],
-            )?;
-            assert_eq!(rt; answer.err(), Some(LoadError::Malformed { at }));
-        }
+    'rows: for (encoding, bytes, at) in MALFORMED {
+        let refused = Some(LoadError::Malformed { at });
+        check_refusals(&rt, alloc, &table, &mut pass, encoding, bytes, refused)?;
+    }
+    Ok(())
+}
+
+/// Two pieces, cut anywhere, are refused so.
+fn check_refusals(
+    rt: &impl Abort,
+    alloc: Global,
+    table: &OwnTable,
+    pass: &mut OwnPass,
+    encoding: Encoding,
+    bytes: &[u8],
+    refused: Option<LoadError>,
+) -> Result<(), Fail>
+    requires { IsOwnPass table.now pass.old }
+    ensures { IsOwnPass table.now pass.new }
+{
+    'cuts: for first in 0..bytes.len() {
+        check_load(
+            rt,
+            alloc,
+            table,
+            pass,
+            encoding,
+            bytes,
+            [first, first],
+            &[],
+            refused,
+        )?;
     }
     Ok(())
 }
@@ -283,42 +346,45 @@ fn accented(alloc: Global, count: usize) -> Result<ByteList, AllocError> {
     Ok(bytes)
 }
 
-#[test]
-fn a_cluster_of_1025_code_points_is_too_long(rt: HostRuntime) -> Result<(), Fail> {
-    let alloc = rt.alloc();
+/// The letter and so many accents, cut at each of these places.
+fn check_accented(
+    rt: &impl Abort,
+    alloc: Global,
+    count: usize,
+    graphemes: &[i32],
+    refused: Option<LoadError>,
+) -> Result<(), Fail> {
     let (table, mut pass) = OwnTable::new(alloc, 16)?;
-    let longest = accented(alloc, 1023)?;
-    for first in [0, 1, 2, 1024, 2046, 2047, 2048] {
-        let bytes = longest.as_slice();
-        let answer = load(
-            &rt,
+    let bytes = accented(alloc, count)?;
+    'cuts: for first in CUTS {
+        let cuts = [first, first];
+        let utf8 = Encoding::Utf8;
+        check_load(
+            rt,
             alloc,
             &table,
             &mut pass,
-            Encoding::Utf8,
-            bytes,
-            [first, 2048],
+            utf8,
+            bytes.as_slice(),
+            cuts,
+            graphemes,
+            refused,
         )?;
-        match answer {
-            Ok(string) => check_string(&rt, &string, &[-2, 0x72])?,
-            Err(_) => Err("refused")?,
-        }
-    }
-    let longer = accented(alloc, 1024)?;
-    for first in [0, 1, 2, 1024, 2048, 2049, 2050] {
-        let bytes = longer.as_slice();
-        let answer = load(
-            &rt,
-            alloc,
-            &table,
-            &mut pass,
-            Encoding::Utf8,
-            bytes,
-            [first, 2050],
-        )?;
-        assert_eq!(rt; answer.err(), Some(LoadError::ClusterLong { at: 0 }));
     }
     Ok(())
+}
+
+static CUTS: [usize; 6] = [0, 1, 2, 1024, 2046, 2047];
+
+#[test]
+fn a_cluster_of_1024_code_points_is_not_too_long(rt: HostRuntime) -> Result<(), Fail> {
+    check_accented(&rt, rt.alloc(), 1023, &[-2, 0x72], None)
+}
+
+#[test]
+fn a_cluster_of_1025_code_points_is_too_long(rt: HostRuntime) -> Result<(), Fail> {
+    let refused = Some(LoadError::ClusterLong { at: 0 });
+    check_accented(&rt, rt.alloc(), 1024, &[], refused)
 }
 
 #[test]
@@ -327,17 +393,16 @@ fn what_is_malformed_behind_a_long_cluster_is_malformed(rt: HostRuntime) -> Resu
     let (table, mut pass) = OwnTable::new(alloc, 16)?;
     let mut bytes = accented(alloc, 1100)?;
     bytes.append(&[0xCC])?;
-    let answer = load(
+    let refused = Some(LoadError::Malformed { at: 2202 });
+    check_refusals(
         &rt,
         alloc,
         &table,
         &mut pass,
         Encoding::Utf8,
         bytes.as_slice(),
-        [7, 2100],
-    )?;
-    assert_eq!(rt; answer.err(), Some(LoadError::Malformed { at: 2202 }));
-    Ok(())
+        refused,
+    )
 }
 
 #[test]

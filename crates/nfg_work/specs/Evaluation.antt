@@ -101,9 +101,13 @@ print state bytes =
     if nat_lt output_limit (length (state.output ++ bytes)) then Err OutputTooLong
     else Ok (record state { output = state.output ++ bytes })
 
+-- the encoding lacks a code point of the cluster
+abbrev pub is_lacking : Encoding → List ℕ → Bool
+is_lacking e cluster = not (list_all (has_code e) cluster)
+
 -- the first cluster with a code point that the encoding lacks
 abbrev pub first_lacking : Encoding → List (List ℕ) → Option ℕ
-first_lacking e clusters = position (λ cluster. not (list_all (has_code e) cluster)) clusters
+first_lacking e clusters = position (is_lacking e) clusters
 
 -- the output grows by bytes, unless a cluster isn't encodable
 abbrev pub put : State → List ℕ → Option ℕ → Result State Cause

@@ -1,3 +1,5 @@
 pub mod Values
 pub mod Printing
 pub mod Evaluation
+pub mod Holding
+pub mod Separated

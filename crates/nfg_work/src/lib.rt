@@ -2,8 +2,19 @@
 #![tactic(auto)]
 
 mod alone;
+mod answering;
+mod defining;
+mod evaluation;
 mod gate;
+mod hexadecimal;
+mod naming;
 mod output;
+mod printing;
+mod put;
+mod spelling;
+mod stop;
+#[cfg(test)]
+mod tests;
 
 pub use alone::run_alone;
 pub use gate::{Gate, OpenGate};

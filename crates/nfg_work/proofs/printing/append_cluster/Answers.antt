@@ -1,0 +1,9 @@
+use Rattle.std.proofs.Common.{◌≡◌, ◌++◌, ◌∷◌, [], OnOk, true, ap, ◌∙◌, sym, append_assoc, arith, rules, take, slice_get, slice_index_or, Some, length, ◌+◌, ◌-◌}
+use Rattle.std.specs.Fmt.{digits}
+use Rattle.std.specs.List.{flat_map}
+use Rattle.nfg_work.proofs.Joined.{closed, shown-last}
+use Rattle.nfg_work.proofs.printing.append_cluster.Goals as goal
+
+pub returns : goal.returns
+returns c = shown-last c.args.cluster.now c.showing.k c.args.output.now c.showing.output c.append_number-2.new.output c.append_number-2.result c.showing.invariant
+    (search rules) (search rules) c.append_number-2.ensures

@@ -1,0 +1,52 @@
+use Rattle.std.proofs.Common.{◌≡◌, ◌≤◌, ◌+◌, ◌++◌, length, ap, ◌∙◌, sym, refl, arith, rules, take, drop}
+use Rattle.std.specs.List.{flat_map}
+use Rattle.nfg_syn.specs.OwnTexts.{known_of}
+use Rattle.nfg_syn.specs.RepresentsLaws.{Represents-length}
+use Rattle.nfg_work.specs.Separated.{shown_with_space}
+use Rattle.nfg_work.proofs.Joined.{mapped-more, take-whole}
+use Rattle.nfg_work.proofs.Printed.{part_represents, shown_over}
+use Rattle.nfg_work.proofs.printing.show.Goals as goal
+
+pub show_part-requires-clause-known : goal.show_part-requires-clause-known
+show_part-requires-clause-known c =
+    let count = c.min-count.result in (
+      take count (drop c.showing.at c.requires.known.0),
+      part_represents c.args.pass.now.texts c.showing.pass.texts c.args.string.now.graphemes c.copy_into.new.into c.showing.numbers c.requires.known.0 c.showing.at count
+          c.showing.invariant.texts (omega (arith, c.min-count.ensures, c.min-count.array_long)) (omega (arith, c.min-count.ensures, c.len-len.ensures.len, c.showing-test.true))
+          c.copy_into.ensures c.requires.known.1,
+    )
+
+pub returns-in-Err-clause-shown : goal.returns-in-Err-clause-shown
+returns-in-Err-clause-shown c = λ clusters are.
+    let count = c.min-count.result in
+    let represents = part_represents c.args.pass.now.texts c.showing.pass.texts c.args.string.now.graphemes c.copy_into.new.into c.showing.numbers clusters c.showing.at count
+    c.showing.invariant.texts (omega (arith, c.min-count.ensures, c.min-count.array_long)) (omega (arith, c.min-count.ensures, c.len-len.ensures.len, c.showing-test.true))
+    c.copy_into.ensures are in
+    let out = mapped-more shown_with_space clusters c.showing.at count c.args.output.now c.showing.output c.show_part.new.output
+    (c.showing.invariant.line clusters are) (c.in_ok-show_part.ensures.shown (take count (drop c.showing.at clusters)) represents) in
+    shown_over c.args.output.now c.show_part.new.output c.within_limit.new.output c.len-had.result (c.showing.at + count) clusters c.in-Err.stop
+    (sym c.len-had.ensures) out c.in-Err.ensures.refused
+
+pub showing-preserved : goal.showing-preserved
+showing-preserved c =
+    let count = c.min-count.result in
+    record {
+      at = omega (arith, c.min-count.ensures, c.showing-test.true);
+      numbers = search rules;
+      room = search rules;
+      table = search rules;
+      texts = search rules;
+      line = λ clusters are.
+          let represents = part_represents c.args.pass.now.texts c.showing.pass.texts c.args.string.now.graphemes c.copy_into.new.into c.showing.numbers clusters c.showing.at count
+          c.showing.invariant.texts (omega (arith, c.min-count.ensures, c.min-count.array_long)) (omega (arith, c.min-count.ensures, c.len-len.ensures.len, c.showing-test.true))
+          c.copy_into.ensures are in
+          c.in-Ok.ensures.ok.1 ∙ mapped-more shown_with_space clusters c.showing.at count c.args.output.now c.showing.output c.show_part.new.output
+          (c.showing.invariant.line clusters are) (c.in_ok-show_part.ensures.shown (take count (drop c.showing.at clusters)) represents);
+    }
+
+pub returns-clause-shown : goal.returns-clause-shown
+returns-clause-shown c = λ clusters are.
+    let all : length clusters ≤ c.showing.at =
+    omega (arith, c.showing-test.false, c.len-len.ensures.len, Represents-length (known_of c.args.pass.now.texts) c.args.string.now.graphemes clusters are) in
+    c.end_line.ensures c.args.output.now clusters (sym c.len-had.ensures)
+    (c.showing.invariant.line clusters are ∙ ap (λ v. c.args.output.now ++ flat_map shown_with_space v) (take-whole clusters c.showing.at all))

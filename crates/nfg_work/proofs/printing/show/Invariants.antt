@@ -1,0 +1,20 @@
+use Rattle.std.proofs.Common.{◌≡◌, ◌≤◌, ◌-◌, ℕ, List, ◌++◌, take, length}
+use Rattle.std.specs.List.{flat_map}
+use Rattle.nfg_syn.specs.OwnTexts.{IsOwnPass, known_of}
+use Rattle.nfg_syn.specs.Represents.{Represents}
+use Rattle.nfg_work.specs.Separated.{shown_with_space}
+use Rattle.nfg_work.proofs.printing.show.Given as goal
+
+abbrev pub invariant-showing : goal.invariant-showing
+invariant-showing l = record {
+  at : l.at ≤ l.len;
+  numbers : length l.numbers ≡ 256;
+  room : length l.buffer ≡ 1024;
+  table : IsOwnPass l.table l.pass;
+  texts : l.pass.texts ≡ l.fn.pass.texts;
+  line : (clusters : List (List ℕ)) → Represents (known_of l.fn.pass.texts) l.string.graphemes clusters
+      → l.output ≡ l.fn.output ++ flat_map shown_with_space (take l.at clusters);
+}
+
+abbrev pub decreases-showing : goal.decreases-showing
+decreases-showing l = l.len - l.at

@@ -1,0 +1,15 @@
+use Rattle.std.proofs.Common.{◌≡◌, ℕ, List, ◌++◌, take, length}
+use Rattle.std.specs.List.{flat_map}
+use Rattle.nfg_syn.specs.OwnTexts.{IsOwnPass, known_of}
+use Rattle.nfg_syn.specs.Represents.{Represents}
+use Rattle.nfg_work.specs.Separated.{shown_with_space}
+use Rattle.nfg_work.proofs.printing.show_part.Given as goal
+
+abbrev pub invariant-showing : goal.invariant-showing
+invariant-showing l = record {
+  table : IsOwnPass l.table l.pass;
+  texts : l.pass.texts ≡ l.fn.pass.texts;
+  room : length l.buffer ≡ 1024;
+  line : (clusters : List (List ℕ)) → Represents (known_of l.fn.pass.texts) l.numbers clusters
+      → l.output ≡ l.fn.output ++ flat_map shown_with_space (take l.i clusters);
+}

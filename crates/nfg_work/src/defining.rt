@@ -1,0 +1,192 @@
+//! The commands that define a name: `text`, `load` and `sub`.
+ghost use Rattle.std.specs.Prelude.{◌≡◌, ℕ, ◌+◌, ◌≤◌, nat_lt, List, length, OnOk, IfErr};
+ghost use Rattle.nfg_text.specs.Text.{IsText};
+ghost use Rattle.nfg_text.specs.Graphemes.{graphemes_of};
+ghost use Rattle.nfg_decode.specs.Encoding.{decode};
+ghost use Rattle.nfg_syn.specs.OwnTexts.{IsOwnPass, seen_of};
+ghost use Rattle.nfg_syn.specs.Seen.{Keeps};
+ghost use Rattle.nfg_stream.specs.Load.{HasLoaded};
+ghost use Rattle.nfg_work.specs.declared.output.FileRead.{FileRead};
+ghost use Rattle.nfg_work.specs.declared.stop.Stop.{Stop};
+ghost use Rattle.nfg_work.specs.Evaluation.{State, define_new, define_decoded, load as load_next, define_part, value_of, AreWithinLimit};
+ghost use Rattle.nfg_work.specs.Holding.{Holds, Follows, IsStopOf, IsStopAfter, IsDefined};
+
+use crate::evaluation::Evaluation;
+use crate::naming::string_of_name;
+use crate::stop::Stop;
+use crate::{Cause, FileRead};
+use nfg_decode::Encoding;
+use nfg_ops::{SubError, substring};
+use nfg_strand::NString;
+use nfg_stream::{DecodeStream, LoadError, string_of};
+use nfg_syn::{OwnPass, OwnTable};
+use std::alloc::Global;
+
+/// What all strings of a script may cost together.
+const COST_LIMIT: u64 = 1 << 29;
+
+/// Whether the strings cost too much with one more of this cost.
+fn is_over(spent: u64, cost: u64) -> bool
+    ensures { result ≡ nat_lt 536870912 (spent + cost) }
+{
+    if spent > COST_LIMIT {
+        return true;
+    }
+    cost > COST_LIMIT - spent
+}
+
+/// Why a load or a text defines no name.
+fn stop_of(error: LoadError) -> Stop
+    ensures { IsStopOf error result }
+{
+    match error {
+        LoadError::Malformed { at } => Stop::Refused(Cause::Malformed { at }),
+        LoadError::ClusterLong { at } => Stop::Refused(Cause::ClusterTooLong { at }),
+        LoadError::RowFull => Stop::Refused(Cause::TableFull),
+        LoadError::NoPortion => Stop::Refused(Cause::TableFull),
+        LoadError::OutOfMemory => Stop::OutOfMemory,
+    }
+}
+
+/// Why a load defines no name: malformed bytes come before the cost, and the cost before the rest.
+fn stop_after(error: LoadError, over: bool) -> Stop
+    ensures { IsStopAfter over error result }
+{
+    match error {
+        LoadError::Malformed { at } => Stop::Refused(Cause::Malformed { at }),
+        LoadError::OutOfMemory => Stop::OutOfMemory,
+        _ => {
+            if over {
+                Stop::Refused(Cause::AllTooLong)
+            } else {
+                stop_of(error)
+            }
+        }
+    }
+}
+
+/// The next name gets the string, at this cost.
+fn define(held: &mut Evaluation, cost: u64, string: NString) -> Result<(), Stop>
+    requires { held.old.spent + cost ≤ 536870912 }
+    ensures defined { OnOk result (IsDefined held.old held.new cost string) }
+    ensures refused { IfErr result (λ stop. stop ≡ Stop.OutOfMemory) }
+{
+    match held.strings.push(string) {
+        Ok(()) => {
+            held.spent += cost;
+            Ok(())
+        }
+        Err(_) => Err(Stop::OutOfMemory),
+    }
+}
+
+/// The next name gets the graphemes of a text.
+pub(crate) fn text(alloc: Global, held: &mut Evaluation, codes: &[u32]) -> Result<(), Stop>
+    requires text { IsText codes.now }
+    requires table { IsOwnPass held.old.table held.old.pass }
+    ensures { (places : ℕ) (reads : List FileRead) (state : State) → Holds places reads held.old state
+        → Follows places reads held.old held.new result
+        (define_new places state (length codes.now) (graphemes_of codes.now)) }
+{
+    let cost = codes.len() as u64;
+    if is_over(held.spent, cost) {
+        return Err(Stop::Refused(Cause::AllTooLong));
+    }
+    match string_of(alloc, &held.table, &mut held.pass, codes) {
+        Ok(string) => define(held, cost, string),
+        Err(error) => Err(stop_of(error)),
+    }
+}
+
+/// The string of a file's bytes.
+fn load_bytes(
+    alloc: Global,
+    table: &OwnTable,
+    pass: &mut OwnPass,
+    e: Encoding,
+    bytes: &[u8],
+) -> Result<NString, LoadError>
+    requires table { IsOwnPass table.now pass.old }
+    requires limit { length bytes.now ≤ 67108864 }
+    ensures table { IsOwnPass table.now pass.new }
+    ensures keeps { Keeps (seen_of pass.old) (seen_of pass.new) }
+    ensures loaded { HasLoaded (decode e bytes.now) (seen_of pass.old) (seen_of pass.new) result }
+{
+    let mut stream = DecodeStream::new(alloc, e);
+    // The stream keeps a refusal, and answers it again at the end.
+    let _ = stream.feed(alloc, bytes);
+    stream.finish(alloc, table, pass)
+}
+
+/// The next name gets the text of a file's bytes.
+fn load_file(alloc: Global, held: &mut Evaluation, e: Encoding, bytes: &[u8]) -> Result<(), Stop>
+    requires table { IsOwnPass held.old.table held.old.pass }
+    requires limit { length bytes.now ≤ 67108864 }
+    ensures { (places : ℕ) (reads : List FileRead) (state : State) → Holds places reads held.old state
+        → Follows places reads held.old held.new result
+        (define_decoded places state (length bytes.now) (decode e bytes.now)) }
+{
+    let cost = bytes.len() as u64;
+    let over = is_over(held.spent, cost);
+    match load_bytes(alloc, &held.table, &mut held.pass, e, bytes) {
+        Ok(string) => {
+            if over {
+                return Err(Stop::Refused(Cause::AllTooLong));
+            }
+            define(held, cost, string)
+        }
+        Err(error) => Err(stop_after(error, over)),
+    }
+}
+
+/// The next name gets what the next load has read.
+pub(crate) fn load(
+    alloc: Global,
+    held: &mut Evaluation,
+    e: Encoding,
+    reads: &[FileRead],
+) -> Result<(), Stop>
+    requires table { IsOwnPass held.old.table held.old.pass }
+    requires reads { AreWithinLimit reads.now }
+    ensures { (places : ℕ) (state : State) → Holds places reads.now held.old state
+        → Follows places reads.now held.old held.new result (load_next places state e state.reads) }
+{
+    match reads.get(held.next_read) {
+        None => Err(Stop::Refused(Cause::CannotRead)),
+        Some(FileRead::Failed) => Err(Stop::Refused(Cause::CannotRead)),
+        Some(FileRead::TooLong) => Err(Stop::Refused(Cause::FileTooLong)),
+        Some(FileRead::Bytes(bytes)) => {
+            held.next_read += 1;
+            load_file(alloc, held, e, bytes.as_slice())
+        }
+    }
+}
+
+/// The next name gets a part of a string.
+pub(crate) fn sub(
+    alloc: Global,
+    held: &mut Evaluation,
+    a: u32,
+    start: u64,
+    count: u64,
+) -> Result<(), Stop>
+    ensures { (places : ℕ) (reads : List FileRead) (state : State) → Holds places reads held.old state
+        → Follows places reads held.old held.new result (define_part state (value_of state a) start count) }
+{
+    let nothing = NString::empty(alloc);
+    let part = match substring(
+        alloc,
+        string_of_name(&held.strings, a, &nothing),
+        start,
+        count,
+    ) {
+        Ok(part) => part,
+        Err(SubError::OutOfRange) => return Err(Stop::Refused(Cause::OutOfRange)),
+        Err(SubError::OutOfMemory) => return Err(Stop::OutOfMemory),
+    };
+    let cost = part.len();
+    if is_over(held.spent, cost) {
+        return Err(Stop::Refused(Cause::AllTooLong));
+    }
+    define(held, cost, part)
+}

@@ -1,0 +1,107 @@
+//! Worked rows, and that the calls succeed where there is memory.
+ghost use Rattle.std.specs.Prelude.{◌≤◌, length};
+ghost use Rattle.nfg_work.specs.Evaluation.{AreWithinLimit};
+
+use crate::{Cause, FileRead, Gate, OpenGate, Output, RefusedLine, run_alone};
+use nfg_script::parse;
+use nfg_text::ByteList;
+use std::alloc::Global;
+use std::marker::{Send, Sync};
+use std::test::Fail;
+
+/// What a script gives over a table of 16 places.
+fn output_of(alloc: Global, script: &[u8], reads: &[FileRead]) -> Result<Output, Fail>
+    requires { AreWithinLimit reads.now }
+{
+    match parse(alloc, script) {
+        Ok(script) => Ok(run_alone(alloc, &script, reads, 16)?),
+        Err(_) => Err("the script is refused")?,
+    }
+}
+
+fn refused(line: u32, cause: Cause) -> Option<RefusedLine> {
+    Some(RefusedLine { line, cause })
+}
+
+#[test]
+fn commands_answer_in_order(rt: HostRuntime) -> Result<(), Fail> {
+    let script =
+        b"text a 65 301 D A 71 307 323 61\nlen a\nshow a\nshape a\nsub b a 1 2\nshow b\nshape b\ntext e\nshow e\nshape e\n";
+    let output = output_of(rt.alloc(), script.as_slice(), &[])?;
+    let wanted =
+        b"4\nE9 D+A 71+323+307 61\nstrands 1 4x1/32\nD+A 71+323+307\nstrands 1 2x1/32\n\nstrands 0\n";
+    assert!(rt; output.bytes.as_slice() == wanted.as_slice());
+    assert!(rt; output.refused == None);
+    Ok(())
+}
+
+#[test]
+fn a_part_past_the_end_is_refused(rt: HostRuntime) -> Result<(), Fail> {
+    let script = b"text a 61 62\nsub b a 2 9\nlen b\nsub c a 3 0\nlen c\n";
+    let output = output_of(rt.alloc(), script.as_slice(), &[])?;
+    assert!(rt; output.bytes.as_slice() == b"0\n".as_slice());
+    assert!(rt; output.refused == refused(4, Cause::OutOfRange));
+    Ok(())
+}
+
+#[test]
+fn bytes_are_put_in_each_encoding(rt: HostRuntime) -> Result<(), Fail> {
+    let script =
+        b"text a E9 1F600\nput a utf8\nput a utf16\nput a utf16le\nput a utf16be\ntext b 61 E9\nput b latin1\nput a latin1\n";
+    let output = output_of(rt.alloc(), script.as_slice(), &[])?;
+    let wanted =
+        b"\xC3\xA9\xF0\x9F\x98\x80\xFE\xFF\x00\xE9\xD8\x3D\xDE\x00\xE9\x00\x3D\xD8\x00\xDE\x00\xE9\xD8\x3D\xDE\x00a\xE9";
+    assert!(rt; output.bytes.as_slice() == wanted.as_slice());
+    assert!(rt; output.refused == refused(8, Cause::NotEncodable { at: 1 }));
+    Ok(())
+}
+
+#[test]
+fn the_seventeenth_cluster_finds_the_table_full(rt: HostRuntime) -> Result<(), Fail> {
+    let script =
+        b"text a 71 300\ntext b 71 301\ntext c 71 302\ntext d 71 303\ntext e 71 304\ntext f 71 306\ntext g 71 307\ntext h 71 308\ntext i 71 309\ntext j 71 30A\ntext k 71 30B\ntext l 71 30C\ntext m 71 30F\ntext n 71 311\ntext o 71 323\ntext p 71 324\ntext q D A 71 300\nlen q\ntext r 71 325\nlen r\n";
+    let output = output_of(rt.alloc(), script.as_slice(), &[])?;
+    assert!(rt; output.bytes.as_slice() == b"2\n".as_slice());
+    assert!(rt; output.refused == refused(19, Cause::TableFull));
+    Ok(())
+}
+
+/// What a script with one load gives.
+fn output_over(alloc: Global, script: &[u8], file: &[u8]) -> Result<Output, Fail>
+    requires { length file.now ≤ 67108864 }
+{
+    let bytes = ByteList::from_slice(alloc, file)?;
+    output_of(alloc, script, &[FileRead::Bytes(bytes)])
+}
+
+#[test]
+fn files_are_loaded_or_refused(rt: HostRuntime) -> Result<(), Fail> {
+    let alloc = rt.alloc();
+    let script = b"load a utf8 f\nshow a\nshape a\n";
+    let output = output_over(alloc, script.as_slice(), b"e\xCC\x81\r\nq".as_slice())?;
+    assert!(rt; output.bytes.as_slice() == b"E9 D+A 71\nstrands 1 3x1/32\n".as_slice());
+    let ascii = output_over(alloc, script.as_slice(), b"a\r\n".as_slice())?;
+    assert!(rt; ascii.bytes.as_slice() == b"61 D+A\nstrands 1 2x1/8\n".as_slice());
+    let cut = output_over(alloc, script.as_slice(), b"a\xE2\x82".as_slice())?;
+    assert!(rt; cut.refused == refused(1, Cause::Malformed { at: 1 }));
+    let none = output_of(alloc, script.as_slice(), &[])?;
+    assert!(rt; none.refused == refused(1, Cause::CannotRead));
+    let failed = output_of(alloc, script.as_slice(), &[FileRead::Failed])?;
+    assert!(rt; failed.refused == refused(1, Cause::CannotRead));
+    let long = output_of(alloc, script.as_slice(), &[FileRead::TooLong])?;
+    assert!(rt; long.refused == refused(1, Cause::FileTooLong));
+    Ok(())
+}
+
+fn is_sent<T: Send>(_: &T) {}
+
+fn is_shared<T: Sync>(_: &T) {}
+
+#[test]
+fn reads_go_between_threads_and_an_open_gate_opens() {
+    let read = FileRead::Failed;
+    is_sent(&read);
+    is_shared(&read);
+    OpenGate.enter(0);
+    OpenGate.leave(0);
+}
