@@ -26,9 +26,11 @@ fn step(
     requires place { k < length script.now }
     requires reads { AreWithinLimit reads.now }
     requires held { IsHeld held.old.table reads.now held.old }
-    ensures { (places : ℕ) (numbered : NumberedCommand) (state : State) → slice_get script.now k ≡ Some numbered
+    ensures { (places : ℕ) (numbered : NumberedCommand) (state : State)
+        → slice_get script.now k ≡ Some numbered
         → Holds places reads.now held.old state
-        → Follows places reads.now held.old held.new result (step_of places state numbered numbered.command) }
+        → Follows places reads.now held.old held.new
+        result (step_of places state numbered numbered.command) }
 {
     match script.command(k) {
         Command::Load { name: _, enc } => load(alloc, held, enc, reads),

@@ -19,7 +19,8 @@ use std::alloc::Global;
 
 /// Prints how many graphemes a name has.
 pub(crate) fn print_len(alloc: Global, held: &mut Evaluation, a: u32) -> Result<(), Stop>
-    ensures { (places : ℕ) (reads : List FileRead) (state : State) → Holds places reads held.old state
+    ensures { (places : ℕ) (reads : List FileRead) (state : State)
+        → Holds places reads held.old state
         → Follows places reads held.old held.new result
         (print state (line_of (decimal (length (value_of state a).clusters)))) }
 {
@@ -31,7 +32,8 @@ pub(crate) fn print_len(alloc: Global, held: &mut Evaluation, a: u32) -> Result<
 /// Prints the clusters of a name.
 pub(crate) fn print_show(alloc: Global, held: &mut Evaluation, a: u32) -> Result<(), Stop>
     requires held { (reads : List FileRead) × IsHeld held.old.table reads held.old }
-    ensures { (places : ℕ) (reads : List FileRead) (state : State) → Holds places reads held.old state
+    ensures { (places : ℕ) (reads : List FileRead) (state : State)
+        → Holds places reads held.old state
         → Follows places reads held.old held.new result
         (print state (line_of (shown (value_of state a).clusters))) }
 {
@@ -42,7 +44,8 @@ pub(crate) fn print_show(alloc: Global, held: &mut Evaluation, a: u32) -> Result
 
 /// Prints the pieces of a name.
 pub(crate) fn print_shape(alloc: Global, held: &mut Evaluation, a: u32) -> Result<(), Stop>
-    ensures { (places : ℕ) (reads : List FileRead) (state : State) → Holds places reads held.old state
+    ensures { (places : ℕ) (reads : List FileRead) (state : State)
+        → Holds places reads held.old state
         → Follows places reads held.old held.new result
         (print state (line_of (shape_of (value_of state a).pieces))) }
 {
@@ -59,7 +62,8 @@ pub(crate) fn print_put(
     e: Encoding,
 ) -> Result<(), Stop>
     requires held { (reads : List FileRead) × IsHeld held.old.table reads held.old }
-    ensures { (places : ℕ) (reads : List FileRead) (state : State) → Holds places reads held.old state
+    ensures { (places : ℕ) (reads : List FileRead) (state : State)
+        → Holds places reads held.old state
         → Follows places reads held.old held.new result
         (put_bytes state (encode e (text_of (value_of state a).clusters))
         (first_lacking e (value_of state a).clusters)) }

@@ -84,7 +84,8 @@ fn define(held: &mut Evaluation, cost: u64, string: NString) -> Result<(), Stop>
 pub(crate) fn text(alloc: Global, held: &mut Evaluation, codes: &[u32]) -> Result<(), Stop>
     requires text { IsText codes.now }
     requires table { IsOwnPass held.old.table held.old.pass }
-    ensures { (places : ℕ) (reads : List FileRead) (state : State) → Holds places reads held.old state
+    ensures { (places : ℕ) (reads : List FileRead) (state : State)
+        → Holds places reads held.old state
         → Follows places reads held.old held.new result
         (define_new places state (length codes.now) (graphemes_of codes.now)) }
 {
@@ -122,7 +123,8 @@ fn load_bytes(
 fn load_file(alloc: Global, held: &mut Evaluation, e: Encoding, bytes: &[u8]) -> Result<(), Stop>
     requires table { IsOwnPass held.old.table held.old.pass }
     requires limit { length bytes.now ≤ 67108864 }
-    ensures { (places : ℕ) (reads : List FileRead) (state : State) → Holds places reads held.old state
+    ensures { (places : ℕ) (reads : List FileRead) (state : State)
+        → Holds places reads held.old state
         → Follows places reads held.old held.new result
         (define_decoded places state (length bytes.now) (decode e bytes.now)) }
 {
@@ -170,16 +172,14 @@ pub(crate) fn sub(
     start: u64,
     count: u64,
 ) -> Result<(), Stop>
-    ensures { (places : ℕ) (reads : List FileRead) (state : State) → Holds places reads held.old state
-        → Follows places reads held.old held.new result (define_part state (value_of state a) start count) }
+    ensures { (places : ℕ) (reads : List FileRead) (state : State)
+        → Holds places reads held.old state
+        → Follows places reads held.old held.new
+        result (define_part state (value_of state a) start count) }
 {
     let nothing = NString::empty(alloc);
-    let part = match substring(
-        alloc,
-        string_of_name(&held.strings, a, &nothing),
-        start,
-        count,
-    ) {
+    let string = string_of_name(&held.strings, a, &nothing);
+    let part = match substring(alloc, string, start, count) {
         Ok(part) => part,
         Err(SubError::OutOfRange) => return Err(Stop::Refused(Cause::OutOfRange)),
         Err(SubError::OutOfMemory) => return Err(Stop::OutOfMemory),

@@ -100,7 +100,8 @@ fn show_part(
     ensures table { IsOwnPass table.now pass.new }
     ensures texts { pass.new.texts ≡ pass.old.texts }
     ensures room { length buffer.new ≡ 1024 }
-    ensures shown { (clusters : List (List ℕ)) → Represents (known_of pass.old.texts) numbers.now clusters
+    ensures shown { (clusters : List (List ℕ))
+        → Represents (known_of pass.old.texts) numbers.now clusters
         → OnOk result (output.new ≡ output.old ++ flat_map shown_with_space clusters) }
 {
     'showing: for i in 0..numbers.len() {
@@ -113,7 +114,8 @@ fn show_part(
 /// Takes the last space off, where clusters were added after the first `had` bytes.
 fn drop_last_space(output: &mut ByteList, had: usize)
     ensures { (start : List ℕ) (clusters : List (List ℕ)) → length start ≡ had
-        → output.old ≡ start ++ flat_map shown_with_space clusters → output.new ≡ start ++ shown clusters }
+        → output.old ≡ start ++ flat_map shown_with_space clusters
+        → output.new ≡ start ++ shown clusters }
 {
     if output.len() <= had {
         return;
@@ -143,7 +145,8 @@ pub(crate) fn show(
     requires known { AreSpelled pass.old.texts string.now }
     ensures table { IsOwnPass table.now pass.new }
     ensures texts { pass.new.texts ≡ pass.old.texts }
-    ensures shown { (clusters : List (List ℕ)) → Represents (known_of pass.old.texts) string.now.graphemes clusters
+    ensures shown { (clusters : List (List ℕ))
+        → Represents (known_of pass.old.texts) string.now.graphemes clusters
         → Prints output.old output.new result (line_of (shown clusters)) }
 {
     let had = output.len();

@@ -62,7 +62,8 @@ fn gather_part(
     ensures table { IsOwnPass table.now pass.new }
     ensures texts { pass.new.texts ≡ pass.old.texts }
     ensures room { length buffer.new ≡ 1024 }
-    ensures gathered { (clusters : List (List ℕ)) → Represents (known_of pass.old.texts) numbers.now clusters
+    ensures gathered { (clusters : List (List ℕ))
+        → Represents (known_of pass.old.texts) numbers.now clusters
         → Gathers e clusters at codes.old codes.new result }
 {
     'gathering: for i in 0..numbers.len() {
@@ -87,7 +88,8 @@ fn gather(
     requires known { AreSpelled pass.old.texts string.now }
     ensures table { IsOwnPass table.now pass.new }
     ensures texts { pass.new.texts ≡ pass.old.texts }
-    ensures gathered { (clusters : List (List ℕ)) → Represents (known_of pass.old.texts) string.now.graphemes clusters
+    ensures gathered { (clusters : List (List ℕ))
+        → Represents (known_of pass.old.texts) string.now.graphemes clusters
         → Gathers e clusters 0 codes.old codes.new result }
 {
     let len = string.len();
@@ -130,8 +132,10 @@ pub(crate) fn put(
     requires known { AreSpelled pass.old.texts string.now }
     ensures table { IsOwnPass table.now pass.new }
     ensures texts { pass.new.texts ≡ pass.old.texts }
-    ensures put { (clusters : List (List ℕ)) → Represents (known_of pass.old.texts) string.now.graphemes clusters
-        → Puts (first_lacking e clusters) output.old output.new result (encode e (text_of clusters)) }
+    ensures put { (clusters : List (List ℕ))
+        → Represents (known_of pass.old.texts) string.now.graphemes clusters
+        → Puts (first_lacking e clusters) output.old output.new
+        result (encode e (text_of clusters)) }
 {
     let mut codes = CodeList::new(alloc);
     match gather(table, pass, string, e, &mut codes) {

@@ -6,17 +6,17 @@ use Rattle.nfg_work.proofs.defining.sub.Goals as goal
 pub returns-in-Err-OutOfRange : goal.returns-in-Err-OutOfRange
 returns-in-Err-OutOfRange c = λ places reads state h.
     let nothing = c.empty-nothing.result in
-    let is = named places reads c.args.held.now state c.args.a nothing c.string_of_name.result.now h c.empty-nothing.ensures.graphemes c.empty-nothing.ensures.pieces
-    (c.string_of_name.ensures ∙ ap (λ v. slice_index_or v c.args.a nothing) c.deref.ensures.value) in
+    let is = named places reads c.args.held.now state c.args.a nothing c.string_of_name-string.result.now h c.empty-nothing.ensures.graphemes c.empty-nothing.ensures.pieces
+    (c.string_of_name-string.ensures ∙ ap (λ v. slice_index_or v c.args.a nothing) c.deref.ensures.value) in
     let past = c.in-Err-OutOfRange.ensures.out_of_range.0 (ap (λ e. Err e) c.in-Err-OutOfRange.field-0-is) in
-    (part_outside c.args.held.now.pass.texts state c.string_of_name.result.now (value_of state c.args.a) c.args.start c.args.count is past, refl)
+    (part_outside c.args.held.now.pass.texts state c.string_of_name-string.result.now (value_of state c.args.a) c.args.start c.args.count is past, refl)
 
 pub returns-then-is_over : goal.returns-then-is_over
 returns-then-is_over c = λ places reads state h.
     let nothing = c.empty-nothing.result in
-    let string = c.string_of_name.result.now in
+    let string = c.string_of_name-string.result.now in
     let is = named places reads c.args.held.now state c.args.a nothing string h c.empty-nothing.ensures.graphemes c.empty-nothing.ensures.pieces
-    (c.string_of_name.ensures ∙ ap (λ v. slice_index_or v c.args.a nothing) c.deref.ensures.value) in
+    (c.string_of_name-string.ensures ∙ ap (λ v. slice_index_or v c.args.a nothing) c.deref.ensures.value) in
     let inside = part_inside string c.args.start c.in-Ok.part c.in-Ok.ensures.out_of_range.1 in
     let is_part = part_is places c.args.held.now.pass.texts string c.in-Ok.part (value_of state c.args.a) c.args.start c.args.count h.table.lawful is inside
     c.in-Ok.ensures.graphemes c.in-Ok.ensures.pieces in (
@@ -28,9 +28,9 @@ returns-then-is_over c = λ places reads state h.
 pub returns : goal.returns
 returns c = λ places reads state h.
     let nothing = c.empty-nothing.result in
-    let string = c.string_of_name.result.now in
+    let string = c.string_of_name-string.result.now in
     let is = named places reads c.args.held.now state c.args.a nothing string h c.empty-nothing.ensures.graphemes c.empty-nothing.ensures.pieces
-    (c.string_of_name.ensures ∙ ap (λ v. slice_index_or v c.args.a nothing) c.deref.ensures.value) in
+    (c.string_of_name-string.ensures ∙ ap (λ v. slice_index_or v c.args.a nothing) c.deref.ensures.value) in
     let inside = part_inside string c.args.start c.in-Ok.part c.in-Ok.ensures.out_of_range.1 in
     let is_part = part_is places c.args.held.now.pass.texts string c.in-Ok.part (value_of state c.args.a) c.args.start c.args.count h.table.lawful is inside
     c.in-Ok.ensures.graphemes c.in-Ok.ensures.pieces in
