@@ -2,8 +2,8 @@
 use Rattle.std.proofs.Common.{◌≡◌, ℕ, ◌<◌, Bool, true, false, if◌then◌else◌, List, [], ◌∷◌, ◌++◌, length, sym, ap, subst, ◌∙◌, arith, length-append}
 use Rattle.std.proofs.lemmas.Grind.{merely}
 use Rattle.std.specs.List.{concat}
-use Rattle.unicode_segmentation.specs.Grapheme.{is_grapheme_break}
-use Rattle.unicode_segmentation.specs.Segments.{Rule, cut, prepend}
+use Rattle.nfg_text.specs.Grapheme.{is_grapheme_break}
+use Rattle.nfg_text.specs.Segments.{Rule, cut, prepend}
 use Rattle.nfg_text.specs.Graphemes.{graphemes_of}
 use Rattle.nfg_text.specs.Text.{IsText}
 use Rattle.nfg_text.proofs.Proved.{graphemes_spell_nfc, nfc_of_text, parts_of_text}
