@@ -1,5 +1,5 @@
 -- Worked rows of the definitions.
-use Rattle.std.proofs.Common.{◌≡◌, [], ◌∷◌, Some, None, Ok, Err, refl}
+use Rattle.std.proofs.Common.{◌≡◌, [], ◌∷◌, Some, None, Ok, Err, negsuc, refl}
 use Rattle.nfg_syn.specs.Known.{only_crlf, crlf}
 use Rattle.nfg_stream.specs.declared.error.LoadError.TheVariants.{Malformed}
 use Rattle.nfg_stream.specs.Load.{several, first_long, HasLearned}
@@ -18,7 +18,7 @@ none_is_long = refl
 
 -- CR LF is known already
 line_end_is_known : HasLearned only_crlf (crlf ∷ []) only_crlf
-line_end_is_known = (-1, only_crlf, (refl, λ k other. refl), λ k. refl)
+line_end_is_known = (negsuc 0, only_crlf, (refl, λ k other. refl), λ k. refl)
 
 -- the error of an answer
 an_error : error_of (Err (Malformed 3)) ≡ Some (Malformed 3)

@@ -5,7 +5,7 @@ use Rattle.std.specs.List.{concat}
 use Rattle.unicode_segmentation.specs.Grapheme.{is_grapheme_break}
 use Rattle.unicode_segmentation.specs.Segments.{Rule, cut, prepend}
 use Rattle.nfg_text.specs.Graphemes.{graphemes_of}
-use Rattle.nfg_text.specs.Text.{IsText, text_of}
+use Rattle.nfg_text.specs.Text.{IsText}
 use Rattle.nfg_text.proofs.Proved.{graphemes_spell_nfc, nfc_of_text, parts_of_text}
 use Rattle.nfg_segment.specs.Given.{Given, nothing, with_clusters}
 use Rattle.nfg_stream.specs.Numbering.{AreClusters, Holds, HoldsSome}

@@ -1,7 +1,7 @@
 -- What a pass has learned, one call after another.
-use Rattle.std.proofs.Common.{◌≡◌, ℕ, suc, List, [], ◌∷◌, ◌++◌, Some, ℤ, pos, negsuc, refl, sym, ap, subst, ◌∙◌, append-nil}
+use Rattle.std.proofs.Common.{ℕ, List, [], ◌∷◌, ◌++◌, ℤ, pos, negsuc, refl, sym, subst, ◌∙◌, append-nil}
 use Rattle.std.proofs.lemmas.List.Elements.{filter-append}
-use Rattle.nfg_syn.specs.Known.{Texts, IsSame, IsWithin, MapsBesides}
+use Rattle.nfg_syn.specs.Known.{Texts, IsSame, MapsBesides}
 use Rattle.nfg_stream.specs.Load.{HasLearned, several, is_several}
 
 pub IsSame-refl : (f : Texts) → IsSame f f

@@ -1,5 +1,5 @@
 -- Numbers for clusters, one after another.
-use Rattle.std.proofs.Common.{◌≡◌, ℕ, ◌<◌, List, [], ◌∷◌, ◌++◌, length, Some, None, Result, Ok, Err, IfOk, IfErr, ℤ, refl, sym, ap, subst, ◌∙◌, append-nil, append_assoc, inl, inr, ◌⊎◌}
+use Rattle.std.proofs.Common.{◌≡◌, ℕ, List, [], ◌∷◌, ◌++◌, None, Result, Ok, Err, IfOk, IfErr, ℤ, sym, ap, subst, ◌∙◌, append-nil, append_assoc, inl, inr}
 use Rattle.nfg_strand.specs.Pieces.{flat_piece}
 use Rattle.nfg_strand.specs.Value.{Rope}
 use Rattle.nfg_syn.specs.Known.{Texts, IsSame, IsWithin}
@@ -8,7 +8,7 @@ use Rattle.nfg_syn.specs.RepresentsLaws.{Represents-grows, Represents-push}
 use Rattle.nfg_syn.specs.Seen.{Seen}
 use Rattle.nfg_stream.specs.declared.error.LoadError.{LoadError}
 use Rattle.nfg_stream.specs.declared.error.LoadError.TheVariants.{Malformed, ClusterLong, RowFull, NoPortion, OutOfMemory}
-use Rattle.nfg_stream.specs.Load.{HasLearned, several, first_long, IsMade, StopsAt, StopsSomewhere, HasMade}
+use Rattle.nfg_stream.specs.Load.{HasLearned, several, first_long, StopsAt, StopsSomewhere, HasMade}
 use Rattle.nfg_stream.specs.Numbering.{AreNumbered, IsRefused, HasPushed}
 use Rattle.nfg_stream.proofs.Learned.{HasLearned-same, HasLearned-several, IsSame-refl}
 

@@ -1,10 +1,9 @@
 -- Bytes become clusters, piece after piece.
-use Rattle.std.proofs.Common.{◌≡◌, ℕ, suc, ◌+◌, ◌-◌, ◌<◌, ◌≤◌, List, [], ◌∷◌, ◌++◌, length, take, drop, get_or, Result, Ok, Err, Some, None, refl, sym, ap, subst, ◌∙◌, arith, append-nil, append_assoc}
+use Rattle.std.proofs.Common.{◌≡◌, ℕ, suc, ◌-◌, ◌≤◌, List, [], ◌∷◌, ◌++◌, length, take, drop, Result, refl, sym, ap, subst, ◌∙◌, arith, append_assoc}
 use mathlib.Core.Logic.{∥∥₁_elim}
 use denote.Struct.Props.{≡_prop}
 use Rattle.std.specs.Coded.{coded_bool}
 use Rattle.std.proofs.lemmas.List.{take_all, take-append-drop, length-drop}
-use Rattle.std.proofs.lemmas.Grind.{merely}
 use Rattle.nfg_text.specs.Graphemes.{graphemes_of}
 use Rattle.nfg_text.specs.Text.{IsText}
 use Rattle.nfg_text.proofs.Proved.{parts_of_text}
@@ -14,7 +13,7 @@ use Rattle.std.specs.Str.{chars}
 use Rattle.std.specs.Str.Lossy.{utf8_valid_len}
 use Rattle.nfg_decode.specs.Utf8.{decode_utf8}
 use Rattle.nfg_decode.specs.Utf16.{decode_utf16, decode_marked}
-use Rattle.nfg_decode.specs.Encoding.{decode, decoded_prefix, AreBytes, IsAlreadyMalformed}
+use Rattle.nfg_decode.specs.Encoding.{decode, decoded_prefix, AreBytes}
 use Rattle.nfg_decode.specs.State.{GivesNext}
 use Rattle.nfg_decode.specs.Stream.{HasRead as HasDecoded}
 use Rattle.nfg_decode.proofs.LawLemmas.{prefix_scalars}

@@ -1,5 +1,5 @@
 -- Clusters become numbers of a table (this project's own).
-use Rattle.std.specs.Prelude.{◌≡◌, ⊤, ℕ, ◌<◌, ◌≤◌, ◌⊎◌, List, [], ◌∷◌, ◌++◌, length, map, take, Some, Option, Result, Ok, Err, ℤ}
+use Rattle.std.specs.Prelude.{◌≡◌, ⊤, ℕ, ◌<◌, ◌⊎◌, List, [], ◌∷◌, ◌++◌, length, map, take, Some, Result, Ok, Err, ℤ}
 use Rattle.nfg_text.specs.Text.{IsText}
 use Rattle.nfg_segment.specs.Given.{Given}
 use Rattle.nfg_syn.specs.Known.{Texts, IsSame, IsUnknown}

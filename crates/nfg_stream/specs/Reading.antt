@@ -1,9 +1,9 @@
 -- Bytes are read into clusters (this project's own).
-use Rattle.std.specs.Prelude.{◌≡◌, ⊤, ℕ, List, [], ◌++◌, Option, Some, None, Result, Ok, Err, MatchOption}
+use Rattle.std.specs.Prelude.{◌≡◌, ⊤, ℕ, List, Option, Result, Ok, Err, MatchOption}
 use Rattle.nfg_text.specs.Graphemes.{graphemes_of}
 use Rattle.nfg_decode.specs.declared.encoding.Encoding.{Encoding}
 use Rattle.nfg_decode.specs.Decoded.{Decoded}
-use Rattle.nfg_decode.specs.Encoding.{decode, decoded_prefix, AreBytes, IsAlreadyMalformed}
+use Rattle.nfg_decode.specs.Encoding.{decoded_prefix, AreBytes, IsAlreadyMalformed}
 use Rattle.nfg_decode.specs.Stream.{HasRead as HasDecoded}
 use Rattle.nfg_segment.specs.Follows.{Follows}
 use Rattle.nfg_segment.specs.Given.{Given, nothing, with_clusters}

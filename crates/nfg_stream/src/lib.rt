@@ -5,6 +5,8 @@ mod error;
 mod numbering;
 mod reader;
 #[cfg(test)]
+mod rows;
+#[cfg(test)]
 mod spelled;
 mod stream;
 #[cfg(test)]

@@ -2,6 +2,7 @@
 ghost use Rattle.std.specs.Prelude.{◌<◌, length};
 ghost use Rattle.nfg_syn.specs.OwnTexts.{IsOwnPass};
 
+use crate::rows::ROWS;
 use crate::spelled::encoded;
 use crate::{DecodeStream, LoadError, string_of};
 use nfg_decode::Encoding;
@@ -11,56 +12,6 @@ use nfg_text::{ByteList, CodeList, is_text};
 use std::alloc::{AllocError, Global};
 use std::process::Abort;
 use std::test::Fail;
-
-/// A text, and its graphemes.
-type Row = (&'static [u32], &'static [&'static [u32]]);
-
-/// Marks that reorder or compose, jamo, flags, conjuncts, joined emoji, line ends, prepended marks, and
-/// code points that compose to what breaks otherwise. The graphemes are those of another implementation.
-static ROWS: [Row; 24] = [
-    (&[], &[]),
-    (&[0x65, 0x301, 0x71], &[&[0xE9], &[0x71]]),
-    (&[0x71, 0x323, 0x307], &[&[0x71, 0x323, 0x307]]),
-    (&[0x71, 0x307, 0x323], &[&[0x71, 0x323, 0x307]]),
-    (&[0x41, 0x301], &[&[0xC1]]),
-    (&[0x2194, 0x338], &[&[0x21AE]]),
-    (
-        &[0x1F600, 0x200D, 0x2194, 0x338],
-        &[&[0x1F600, 0x200D], &[0x21AE]],
-    ),
-    (
-        &[0x1F600, 0x200D, 0x2194, 0x61],
-        &[&[0x1F600, 0x200D, 0x2194], &[0x61]],
-    ),
-    (&[0x1100, 0x1161, 0x11A8], &[&[0xAC01]]),
-    (&[0xAC00, 0x11A8, 0x11A8], &[&[0xAC01, 0x11A8]]),
-    (&[0x1161, 0x1100, 0x1161], &[&[0x1161], &[0xAC00]]),
-    (
-        &[0x1F1E6, 0x1F1E7, 0x1F1E8],
-        &[&[0x1F1E6, 0x1F1E7], &[0x1F1E8]],
-    ),
-    (&[0x915, 0x94D, 0x937], &[&[0x915, 0x94D, 0x937]]),
-    (
-        &[0x1F468, 0x200D, 0x1F469, 0x200D, 0x1F467],
-        &[&[0x1F468, 0x200D, 0x1F469, 0x200D, 0x1F467]],
-    ),
-    (
-        &[0x1F44D, 0x1F3FD, 0x1F44D],
-        &[&[0x1F44D, 0x1F3FD], &[0x1F44D]],
-    ),
-    (
-        &[0x61, 0xD, 0xA, 0xA, 0xD],
-        &[&[0x61], &[0xD, 0xA], &[0xA], &[0xD]],
-    ),
-    (&[0xD, 0x301, 0xD, 0xA], &[&[0xD], &[0x301], &[0xD, 0xA]]),
-    (&[0x1E0B, 0x323], &[&[0x1E0D, 0x307]]),
-    (&[0x304B, 0x3099, 0x4E00], &[&[0x304C], &[0x4E00]]),
-    (&[0xE01, 0xE33], &[&[0xE01, 0xE33]]),
-    (&[0x600, 0x61], &[&[0x600, 0x61]]),
-    (&[0xE9, 0xAD, 0xFF], &[&[0xE9], &[0xAD], &[0xFF]]),
-    (&[0x212B, 0x3A9], &[&[0xC5], &[0x3A9]]),
-    (&[0x64, 0x307, 0x323, 0x64], &[&[0x1E0D, 0x307], &[0x64]]),
-];
 
 static ENCODINGS: [Encoding; 5] = [
     Encoding::Utf8,
@@ -73,7 +24,7 @@ static ENCODINGS: [Encoding; 5] = [
 #[test]
 fn hard_texts_have_their_graphemes_at_every_cut(rt: HostRuntime) -> Result<(), Fail> {
     let alloc = rt.alloc();
-    let (table, mut pass) = OwnTable::new(alloc, 1024)?;
+    let (table, mut pass) = OwnTable::new(alloc, 16)?;
     'rows: for (text, clusters) in ROWS {
         let graphemes = numbers_of(&rt, alloc, &table, &mut pass, clusters)?;
         check_text(&rt, alloc, &table, &mut pass, text, &graphemes)?;

@@ -1,4 +1,4 @@
-use Rattle.std.proofs.Common.{arith, length, take, drop, [], ◌∷◌, ◌++◌, suc, ap, sym, subst, ◌∙◌, ◌<◌, ◌≤◌}
+use Rattle.std.proofs.Common.{arith, length, take, drop, [], ◌∷◌, ◌++◌, suc, ap, sym, subst, ◌∙◌, ◌≤◌}
 use Rattle.std.proofs.lemmas.List.{take_more}
 use Rattle.nfg_stream.specs.Numbering.{IsCluster, AreNumbered}
 use Rattle.nfg_syn.specs.SeenLaws.{Keeps-trans, SameCounts-trans}

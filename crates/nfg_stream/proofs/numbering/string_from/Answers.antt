@@ -1,6 +1,6 @@
-use Rattle.std.proofs.Common.{◌≡◌, None, Ok, Err, sym, subst, ◌∙◌}
-use Rattle.nfg_stream.specs.Load.{HasMade, first_long}
-use Rattle.nfg_stream.specs.Numbering.{AreClusters, AreNumbered}
+use Rattle.std.proofs.Common.{Err, sym, subst, ◌∙◌}
+use Rattle.nfg_stream.specs.Load.{HasMade}
+use Rattle.nfg_stream.specs.Numbering.{AreNumbered}
 use Rattle.nfg_stream.proofs.Holding.{Holds-short, clusters-short, heads-none}
 use Rattle.nfg_stream.proofs.Numbered.{made-answer}
 use Rattle.nfg_stream.proofs.numbering.string_from.Goals as goal

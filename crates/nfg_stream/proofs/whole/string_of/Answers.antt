@@ -1,4 +1,4 @@
-use Rattle.std.proofs.Common.{[], ◌++◌, ◌∙◌}
+use Rattle.std.proofs.Common.{[]}
 use Rattle.nfg_text.specs.Graphemes.{graphemes_of}
 use Rattle.nfg_stream.proofs.GraphemeTexts.{Holds-finished, Holds-some}
 use Rattle.nfg_stream.proofs.whole.string_of.Goals as goal

@@ -1,5 +1,4 @@
-use Rattle.std.proofs.Common.{ap, sym, subst, ◌∙◌, Ok}
-use Rattle.nfg_decode.specs.Encoding.{decode, decoded_prefix}
+use Rattle.std.proofs.Common.{sym, subst, Ok}
 use Rattle.nfg_stream.specs.Reading.{HasEnded}
 use Rattle.nfg_stream.proofs.ReadingLemmas.{ended-text}
 use Rattle.nfg_stream.proofs.reader.Reader.end.Goals as goal

@@ -1,6 +1,6 @@
-use Rattle.std.proofs.Common.{arith, ◌≤◌, ◌++◌, length, take, drop, ap, sym, subst, ◌∙◌, append_assoc, length-append}
+use Rattle.std.proofs.Common.{arith, ◌++◌, length, take, ap, subst, ◌∙◌, append_assoc, length-append}
 use Rattle.std.proofs.Math.Logic.{∥∥₁_map}
-use Rattle.std.proofs.lemmas.List.{length-take, length-drop}
+use Rattle.std.proofs.lemmas.List.{length-take}
 use Rattle.nfg_decode.proofs.StreamLemmas.{bytes_all}
 use Rattle.nfg_stream.specs.Reading.{IsReading}
 use Rattle.nfg_stream.proofs.ReadingLemmas.{part-rest, early-whole, taken-whole}

@@ -1,4 +1,4 @@
-use Rattle.std.proofs.Common.{arith, [], sym, subst, ◌∙◌}
+use Rattle.std.proofs.Common.{arith, [], sym, subst}
 use Rattle.nfg_decode.proofs.StreamLemmas.{bytes_all}
 use Rattle.nfg_decode.specs.State.{GivesNext}
 use Rattle.nfg_text.specs.Text.{IsText}

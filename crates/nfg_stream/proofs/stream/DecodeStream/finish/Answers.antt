@@ -1,6 +1,5 @@
-use Rattle.std.proofs.Common.{Err}
 use Rattle.nfg_decode.specs.Encoding.{decode}
-use Rattle.nfg_stream.proofs.StreamLemmas.{read-early, read-reading, open-some, loaded-early, loaded-ended, loaded-made, ended-some}
+use Rattle.nfg_stream.proofs.StreamLemmas.{read-early, read-reading, open-some, loaded-early, loaded-ended, ended-some}
 use Rattle.nfg_stream.proofs.stream.DecodeStream.finish.Goals as goal
 
 pub returns-in-Some-clause-loaded : goal.returns-in-Some-clause-loaded
