@@ -1,12 +1,12 @@
 -- What a command prints is what the step prints.
-use Rattle.std.proofs.Common.{◌≡◌, ℕ, zero, suc, ◌+◌, ◌<◌, ◌≤◌, IfSome, arith, true, false, nat_lt, List, [], ◌∷◌, ◌++◌, length, drop, slice_get, Option, Some, None, Result, Ok, Err, refl, sym, ap, ◌∙◌, subst}
-use Rattle.nfg_syn.specs.OwnTexts.{OwnTexts, IsOwnPass, known_of, seen_of}
+use Rattle.std.proofs.Common.{◌≡◌, ℕ, zero, suc, ◌+◌, ◌<◌, ◌≤◌, IfSome, arith, nat_lt, List, [], ◌∷◌, ◌++◌, length, drop, slice_get, Option, Some, None, Result, Ok, Err, refl, sym, ap, ◌∙◌, subst}
+use Rattle.nfg_syn.specs.OwnTexts.{OwnTexts, IsOwnPass, seen_of}
 use Rattle.nfg_syn.specs.Seen.{IsFirst}
 use Rattle.nfg_work.proofs.Tables.{slice_get-same}
 use Rattle.nfg_script.specs.Script.{NumberedCommand}
 use Rattle.nfg_work.specs.declared.evaluation.Evaluation.{Evaluation}
 use Rattle.nfg_work.specs.declared.output.Cause.{Cause}
-use Rattle.nfg_work.specs.declared.output.Cause.TheVariants.{OutputTooLong, NotEncodable}
+use Rattle.nfg_work.specs.declared.output.Cause.TheVariants.{OutputTooLong}
 use Rattle.nfg_work.specs.declared.output.FileRead.{FileRead}
 use Rattle.nfg_work.specs.declared.output.Output.{Output}
 use Rattle.nfg_work.specs.declared.stop.Stop.{Stop}

@@ -1,20 +1,19 @@
 -- A name that is defined, or refused, as the step says.
-use Rattle.std.proofs.Common.{◌≡◌, ℕ, ◌+◌, ◌<◌, Bool, true, false, nat_lt, List, [], ◌∷◌, ◌++◌, length, bytes_eq, Option, Some, None, Result, Ok, Err, OnOk, IfErr, refl, sym, ap, ◌∙◌, subst}
+use Rattle.std.proofs.Common.{◌≡◌, ℕ, ◌+◌, ◌<◌, Bool, true, false, nat_lt, List, [], ◌∷◌, ◌++◌, bytes_eq, Some, None, Result, Ok, Err, OnOk, IfErr, refl, sym, ap, ◌∙◌, subst}
 use Rattle.std.specs.Set.{distinct_count}
 use Rattle.nfg_decode.specs.Decoded.{Decoded}
-use Rattle.nfg_syn.specs.OwnTexts.{OwnTexts, IsOwnPass, known_of, seen_of}
+use Rattle.nfg_syn.specs.OwnTexts.{OwnTexts, IsOwnPass, seen_of}
 use Rattle.nfg_syn.specs.Seen.{Keeps}
 use Rattle.nfg_strand.specs.Value.{Rope}
 use Rattle.nfg_stream.specs.declared.error.LoadError.{LoadError}
 use Rattle.nfg_stream.specs.declared.error.LoadError.TheVariants.{Malformed, ClusterLong, RowFull, NoPortion, OutOfMemory as NoMemory}
 use Rattle.nfg_stream.specs.Load.{HasMade, HasLoaded, first_long}
 use Rattle.nfg_work.specs.declared.evaluation.Evaluation.{Evaluation}
-use Rattle.nfg_work.specs.declared.output.Cause.{Cause}
 use Rattle.nfg_work.specs.declared.output.Cause.TheVariants.{AllTooLong, ClusterTooLong, TableFull, Malformed as TextMalformed}
 use Rattle.nfg_work.specs.declared.output.FileRead.{FileRead}
 use Rattle.nfg_work.specs.declared.stop.Stop.{Stop}
 use Rattle.nfg_work.specs.declared.stop.Stop.TheVariants.{Refused, OutOfMemory}
-use Rattle.nfg_work.specs.Values.{Value, flat}
+use Rattle.nfg_work.specs.Values.{flat}
 use Rattle.nfg_work.specs.Evaluation.{State, used_with, define_new, define_decoded}
 use Rattle.nfg_work.specs.Holding.{IsStringOf, Holds, Follows, IsStopOf, IsStopAfter, IsDefined}
 use Rattle.nfg_work.proofs.InUse.{AreInUse-made, used_fit, used_over}

@@ -1,5 +1,5 @@
 -- The texts of a table are those in use, while strings are made.
-use Rattle.std.proofs.Common.{◌≡◌, ◌≢◌, ℕ, zero, suc, ◌+◌, ◌<◌, ◌≤◌, Bool, true, false, ◌||◌, ◌&&◌, ◌⊎◌, inl, inr, nat_lt, List, [], ◌∷◌, ◌++◌, length, slice_get, filter, bytes_eq, Some, None, IsSome, ℤ, pos, negsuc, refl, sym, ap, ◌∙◌, length-append, append_assoc, arith}
+use Rattle.std.proofs.Common.{◌≡◌, ◌≢◌, ℕ, zero, suc, ◌+◌, ◌<◌, ◌≤◌, Bool, true, false, ◌||◌, ◌⊎◌, inl, inr, nat_lt, List, [], ◌∷◌, ◌++◌, length, slice_get, filter, bytes_eq, Some, None, IsSome, ℤ, pos, negsuc, refl, sym, ap, ◌∙◌, length-append, append_assoc, arith}
 use Rattle.std.proofs.lemmas.Bool.{lt-ltb, ltb-true, cases_lt, false_from_ne_true, and_parts, and_from}
 use Rattle.std.proofs.lemmas.List.Folds.{list_any-append}
 use Rattle.std.proofs.lemmas.Slice.Eq.{bytes_eq-Decides}
@@ -9,15 +9,13 @@ use mathlib.Core.Logic.{dite}
 use native.Mathlib.Decide.{ℕ_discrete}
 use Rattle.nfg_syn.specs.Known.{Texts, IsUnknown, IsWithin, MapsBesides, crlf}
 use Rattle.nfg_syn.specs.KnownLaws.{same_text}
-use Rattle.nfg_syn.specs.OwnTexts.{AreTextsOf, known_of, places_of}
-use Rattle.nfg_syn.specs.Refusal.{IsTableFull}
+use Rattle.nfg_syn.specs.OwnTexts.{AreTextsOf, known_of}
 use Rattle.nfg_syn.specs.Represents.{Represents, spelling}
 use Rattle.nfg_syn.specs.RepresentsLaws.{spelling-one}
 use Rattle.nfg_stream.specs.Load.{HasLearned, several, is_several}
 use Rattle.nfg_work.specs.Evaluation.{takes_place}
-use Rattle.nfg_work.specs.Values.{is_line_end}
 use Rattle.nfg_work.specs.Holding.{AreInUse}
-use Rattle.nfg_work.proofs.Members.{both_ways, or-left, or-right, is_member-at, is_member-place, is_member-front, is_member-back, is_member-kept, IsDistinct-from_places, IsDistinct-more, length-le_distinct, length-distinct}
+use Rattle.nfg_work.proofs.Members.{both_ways, or-right, is_member-at, is_member-place, is_member-front, is_member-back, is_member-kept, IsDistinct-from_places, IsDistinct-more, length-le_distinct, length-distinct}
 
 -- a text of the table takes a place
 takes_place-other : (t : List ℕ) → 2 ≤ length t → t ≢ crlf → takes_place t ≡ true

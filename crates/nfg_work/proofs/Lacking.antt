@@ -1,5 +1,5 @@
 -- The first cluster with a code point that an encoding lacks.
-use Rattle.std.proofs.Common.{◌≡◌, ℕ, zero, suc, ◌+◌, ◌-◌, ◌<◌, ◌≤◌, Bool, true, false, not, ◌&&◌, List, [], ◌∷◌, ◌++◌, length, take, drop, slice_get, slice_index_or, Option, Some, None, Result, Ok, Err, ℤ, pos, negsuc, refl, sym, ap, ◌∙◌, subst, append_assoc, append-nil, cond, arith}
+use Rattle.std.proofs.Common.{◌≡◌, ℕ, zero, suc, ◌+◌, ◌<◌, ◌≤◌, Bool, true, false, ◌&&◌, List, [], ◌∷◌, ◌++◌, length, take, drop, slice_get, slice_index_or, Option, Some, None, Result, Err, ℤ, pos, negsuc, refl, sym, ap, ◌∙◌, subst, cond, arith}
 use Rattle.std.proofs.lemmas.Bool.{and_parts, and_from}
 use Rattle.std.specs.List.{list_all, position_from, concat}
 use Rattle.std.specs.Str.{all_scalars}
@@ -11,18 +11,17 @@ use Rattle.std.proofs.lemmas.List.Concat.{concat_is}
 use Rattle.nfg_strand.proofs.Positions.{found-append, absent-append, position_from-add}
 use Rattle.nfg_text.specs.Text.{IsText, text_of}
 use Rattle.nfg_decode.specs.declared.encoding.Encoding.{Encoding}
-use Rattle.nfg_decode.specs.Encoding.{has_code, encode}
+use Rattle.nfg_decode.specs.Encoding.{encode}
 use Rattle.nfg_syn.specs.OwnTexts.{OwnTexts, IsOwnPass, known_of}
 use Rattle.nfg_syn.specs.OwnTextsLaws.{numbers_of}
 use Rattle.nfg_syn.specs.Represents.{Represents, spelling}
 use Rattle.nfg_syn.specs.RepresentsLaws.{spelling-one}
-use Rattle.nfg_work.specs.declared.output.Cause.{Cause}
 use Rattle.nfg_work.specs.declared.output.Cause.TheVariants.{NotEncodable}
 use Rattle.nfg_work.specs.declared.stop.Stop.{Stop}
 use Rattle.nfg_work.specs.declared.stop.Stop.TheVariants.{Refused, OutOfMemory}
 use Rattle.nfg_work.specs.Evaluation.{first_lacking, is_lacking}
 use Rattle.nfg_work.specs.Holding.{Prints, Puts, Gathers}
-use Rattle.nfg_work.proofs.Joined.{mapped-next, mapped-more, take-push, take-more, take-whole, slice_get-read}
+use Rattle.nfg_work.proofs.Joined.{mapped-next, mapped-more, take-push, take-more, slice_get-read}
 use Rattle.nfg_work.proofs.Tables.{length-take_le}
 
 all-append : (p : ℕ → Bool) (xs : List ℕ) (x : ℕ) → list_all p xs ≡ true → p x ≡ true → list_all p (xs ++ x ∷ []) ≡ true

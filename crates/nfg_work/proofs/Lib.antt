@@ -1,3 +1,4 @@
+mod Examples
 pub mod Members
 pub mod InUse
 pub mod Narrow

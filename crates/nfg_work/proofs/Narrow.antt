@@ -1,14 +1,13 @@
 -- The numbers of clusters are narrow just where the clusters are.
-use Rattle.std.proofs.Common.{◌≡◌, ◌≢◌, ℕ, zero, suc, ◌+◌, ◌<◌, ◌≤◌, Bool, true, false, ◌||◌, nat_lt, min, List, [], ◌∷◌, ◌++◌, length, take, drop, slice_get, bytes_eq, Some, ℤ, pos, negsuc, refl, sym, ap, ◌∙◌, cond, arith, slice_range}
+use Rattle.std.proofs.Common.{◌≡◌, ◌≢◌, ℕ, zero, suc, ◌≤◌, Bool, true, false, ◌||◌, nat_lt, List, [], ◌∷◌, length, bytes_eq, Some, ℤ, pos, negsuc, refl, sym, ap, ◌∙◌, cond, arith}
 use Rattle.std.proofs.lemmas.Bool.{false_from_ne_true, ne_eqb}
 use Rattle.std.proofs.lemmas.Slice.Eq.{bytes_eq-Decides}
-use Rattle.std.specs.List.{list_all, AllZip}
 use Rattle.nfg_strand.specs.Lanes.{is_narrow_grapheme}
-use Rattle.nfg_syn.specs.Known.{Texts, IsWithin, crlf}
+use Rattle.nfg_syn.specs.Known.{crlf}
 use Rattle.nfg_syn.specs.KnownLaws.{same_text}
 use Rattle.nfg_syn.specs.OwnTexts.{AreTextsOf, known_of}
 use Rattle.nfg_syn.specs.Represents.{Represents, spelling}
-use Rattle.nfg_syn.specs.RepresentsLaws.{spelling-one, Represents-length, Represents-grows}
+use Rattle.nfg_syn.specs.RepresentsLaws.{spelling-one, Represents-length}
 use Rattle.nfg_strand.specs.declared.piece.Piece.{Piece}
 use Rattle.nfg_strand.specs.Pieces as pieces
 use Rattle.nfg_work.specs.Values.{is_line_end, is_ascii, is_narrow, flat_piece, at_most_64}

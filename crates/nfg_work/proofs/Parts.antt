@@ -1,5 +1,5 @@
 -- A part of a string, and what was read for a load.
-use Rattle.std.proofs.Common.{◌≡◌, ℕ, zero, suc, ◌+◌, ◌-◌, ◌<◌, ◌≤◌, Bool, true, false, nat_lt, min, List, [], ◌∷◌, ◌++◌, length, take, drop, drop-cons, get_or, slice_range, slice_index_or, Some, None, Result, Ok, Err, OnOk, IfErr, ◌⊎◌, inl, inr, ℤ, refl, sym, ap, ◌∙◌, subst, length-drop, arith}
+use Rattle.std.proofs.Common.{◌≡◌, ℕ, zero, suc, ◌+◌, ◌-◌, ◌<◌, ◌≤◌, Bool, true, false, nat_lt, min, List, [], ◌∷◌, ◌++◌, length, take, drop, drop-cons, get_or, slice_range, slice_index_or, Result, Ok, Err, OnOk, IfErr, inl, inr, ℤ, refl, sym, ap, ◌∙◌, subst, length-drop, arith}
 use Rattle.std.proofs.lemmas.Bool.{lt-ltb, le-ltb, cases_lt}
 use Rattle.nfg_decode.specs.declared.encoding.Encoding.{Encoding}
 use Rattle.nfg_decode.specs.Encoding.{decode}

@@ -1,19 +1,15 @@
 -- What is printed, and what is over the limit.
-use Rattle.std.proofs.Common.{◌≡◌, ℕ, zero, suc, ◌+◌, ◌-◌, ◌<◌, ◌≤◌, true, false, nat_lt, List, [], ◌∷◌, ◌++◌, length, take, drop, slice_range, Result, Ok, Err, ℤ, refl, sym, ap, ◌∙◌, subst, append_assoc, length-append, arith}
-use Rattle.std.proofs.lemmas.Bool.{lt-ltb, le-ltb}
-use Rattle.std.specs.List.{flat_map, join_with_byte}
+use Rattle.std.proofs.Common.{◌≡◌, ℕ, zero, suc, ◌+◌, ◌≤◌, true, nat_lt, List, [], ◌∷◌, ◌++◌, length, take, drop, slice_range, Err, ℤ, refl, sym, ap, ◌∙◌, length-append, arith}
+use Rattle.std.proofs.lemmas.Bool.{lt-ltb}
+use Rattle.std.specs.List.{flat_map}
 use Rattle.std.proofs.Math.Seq.{take-append_seam}
-use Rattle.std.proofs.lemmas.List.Concat.{flat_map-append}
 use Rattle.nfg_syn.specs.OwnTexts.{known_of}
 use Rattle.nfg_syn.specs.Represents.{Represents}
-use Rattle.nfg_work.specs.declared.output.Cause.{Cause}
-use Rattle.nfg_work.specs.declared.output.Cause.TheVariants.{OutputTooLong}
 use Rattle.nfg_work.specs.declared.stop.Stop.{Stop}
-use Rattle.nfg_work.specs.declared.stop.Stop.TheVariants.{Refused, OutOfMemory}
 use Rattle.nfg_work.specs.Printing.{shown, shown_cluster, line_of}
 use Rattle.nfg_work.specs.Separated.{shown_with_space}
 use Rattle.nfg_work.specs.Holding.{Prints, IsRefusedAt}
-use Rattle.nfg_work.proofs.Joined.{join-closed, represents-range, take-more, take-whole}
+use Rattle.nfg_work.proofs.Joined.{join-closed, represents-range}
 use Rattle.nfg_work.proofs.Tables.{copied_part, length-take_le}
 
 -- the part of a string in the buffer stands for that part of the clusters

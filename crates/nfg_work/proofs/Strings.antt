@@ -1,6 +1,5 @@
 -- Strings that stand for values, in order.
-use Rattle.std.proofs.Common.{◌≡◌, ℕ, zero, suc, List, [], ◌∷◌, ◌++◌, slice_index_or, refl, subst}
-use Rattle.std.specs.List.{AllZip}
+use Rattle.std.proofs.Common.{ℕ, zero, suc, List, [], ◌∷◌, ◌++◌, slice_index_or}
 use Rattle.nfg_syn.specs.Known.{IsWithin}
 use Rattle.nfg_syn.specs.OwnTexts.{known_of}
 use Rattle.nfg_syn.specs.RepresentsLaws.{Represents-grows}

@@ -5,7 +5,7 @@ use Rattle.nfg_syn.specs.Known.{Texts, IsSame, text_at}
 use Rattle.nfg_syn.specs.KnownLaws.{same_text}
 use Rattle.nfg_syn.specs.OwnTexts.{OwnTexts, IsOwnPass, known_of}
 use Rattle.nfg_syn.specs.OwnTextsLaws.{numbers_of}
-use Rattle.nfg_syn.specs.Represents.{Represents, spelling}
+use Rattle.nfg_syn.specs.Represents.{spelling}
 use Rattle.nfg_syn.specs.RepresentsLaws.{spelling-one}
 use Rattle.nfg_work.proofs.Joined.{take-whole}
 

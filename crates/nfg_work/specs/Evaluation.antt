@@ -1,9 +1,9 @@
 -- Scripts are evaluated over plain lists of clusters, a command at a time (this project's own).
-use Rattle.std.specs.Prelude.{ℕ, ◌+◌, ◌≤◌, ◌^◌, Bool, not, ◌&&◌, List, [], ◌∷◌, ◌++◌, filter, length, bytes_eq, nat_lt, position, slice_index_or, All, Option, Some, None, Result, Ok, Err, if◌then◌else◌}
+use Rattle.std.specs.Prelude.{ℕ, ◌+◌, ◌≤◌, Bool, not, ◌&&◌, List, [], ◌∷◌, ◌++◌, filter, length, bytes_eq, nat_lt, position, slice_index_or, All, Option, Some, None, Result, Ok, Err, if◌then◌else◌}
 use Rattle.std.specs.List.{list_all}
 use Rattle.std.specs.Set.{distinct_count}
 use Rattle.std.specs.Fmt.{decimal}
-use Rattle.nfg_text.specs.Graphemes.{graphemes_of, is_too_long}
+use Rattle.nfg_text.specs.Graphemes.{graphemes_of}
 use Rattle.nfg_text.specs.Text.{text_of}
 use Rattle.nfg_decode.specs.declared.encoding.Encoding.{Encoding}
 use Rattle.nfg_decode.specs.Decoded.{Decoded}

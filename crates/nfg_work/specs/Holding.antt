@@ -4,7 +4,7 @@ use Rattle.std.specs.List.{AllZip}
 use Rattle.std.specs.Set.{is_member}
 use Rattle.nfg_text.specs.Text.{text_of}
 use Rattle.nfg_decode.specs.declared.encoding.Encoding.{Encoding}
-use Rattle.nfg_syn.specs.OwnTexts.{OwnTexts, IsOwnPass, known_of}
+use Rattle.nfg_syn.specs.OwnTexts.{IsOwnPass, known_of}
 use Rattle.nfg_syn.specs.Represents.{Represents}
 use Rattle.nfg_strand.specs.Value.{Rope}
 use Rattle.nfg_stream.specs.declared.error.LoadError.{LoadError}

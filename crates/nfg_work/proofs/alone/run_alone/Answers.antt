@@ -1,6 +1,6 @@
-use Rattle.std.proofs.Common.{◌≡◌, ◌<◌, length, arith, refl, sym}
+use Rattle.std.proofs.Common.{◌<◌, length, arith, refl}
 use Rattle.nfg_work.specs.declared.evaluation.Evaluation.{Evaluation}
-use Rattle.nfg_work.proofs.Answered.{Holds-first, running_first, running_next, running_stopped, running_done, command_at, line_at, texts-first}
+use Rattle.nfg_work.proofs.Answered.{Holds-first, running_first, running_next, running_stopped, command_at, line_at, texts-first}
 use Rattle.nfg_work.proofs.alone.run_alone.Goals as goal
 
 pub running-init : goal.running-init

@@ -1,8 +1,8 @@
-use Rattle.std.proofs.Common.{◌≡◌, ap, refl, sym, subst, ◌∙◌, slice_index_or, List, ℕ, length}
+use Rattle.std.proofs.Common.{ap, refl, subst, ◌∙◌, slice_index_or, ℕ}
 use Rattle.std.specs.Fmt.{decimal}
 use Rattle.nfg_syn.specs.OwnTexts.{known_of}
 use Rattle.nfg_syn.specs.RepresentsLaws.{Represents-length}
-use Rattle.nfg_work.specs.Printing.{shown, shape, line_of}
+use Rattle.nfg_work.specs.Printing.{line_of}
 use Rattle.nfg_work.specs.Evaluation.{value_of}
 use Rattle.nfg_work.specs.Holding.{Prints}
 use Rattle.nfg_work.proofs.Parts.{named}

@@ -1,9 +1,5 @@
-use Rattle.std.proofs.Common.{◌≡◌, ap, refl, sym, subst, ◌∙◌, slice_index_or, List, ℕ, length}
-use Rattle.std.specs.Fmt.{decimal}
-use Rattle.nfg_syn.specs.OwnTexts.{known_of}
-use Rattle.nfg_syn.specs.RepresentsLaws.{Represents-length}
-use Rattle.nfg_work.specs.Printing.{shown, shape, line_of}
-use Rattle.nfg_work.specs.Evaluation.{value_of}
+use Rattle.std.proofs.Common.{ap, refl, subst, ◌∙◌, slice_index_or}
+use Rattle.nfg_work.specs.Printing.{shape, line_of}
 use Rattle.nfg_work.specs.Holding.{Prints}
 use Rattle.nfg_work.proofs.Parts.{named}
 use Rattle.nfg_work.proofs.Answered.{printed_follows}

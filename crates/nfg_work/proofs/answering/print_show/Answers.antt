@@ -1,4 +1,4 @@
-use Rattle.std.proofs.Common.{◌≡◌, ap, refl, ◌∙◌, slice_index_or}
+use Rattle.std.proofs.Common.{ap, ◌∙◌, slice_index_or}
 use Rattle.nfg_work.specs.Evaluation.{value_of}
 use Rattle.nfg_work.proofs.Parts.{named}
 use Rattle.nfg_work.proofs.Answered.{printed_follows, own_in}

@@ -1,4 +1,4 @@
-use Rattle.std.proofs.Common.{◌≡◌, Err, ap, sym, refl, ◌∙◌, slice_index_or}
+use Rattle.std.proofs.Common.{Err, ap, sym, refl, ◌∙◌, slice_index_or}
 use Rattle.nfg_work.specs.Evaluation.{value_of}
 use Rattle.nfg_work.proofs.Parts.{named, part_outside, part_inside, part_is, part_over, part_follows}
 use Rattle.nfg_work.proofs.defining.sub.Goals as goal

@@ -1,7 +1,5 @@
-use Rattle.std.proofs.Common.{◌≡◌, ◌++◌, ◌∷◌, [], OnOk, true, ap, ◌∙◌, sym, append_assoc, arith, rules, take, slice_get, slice_index_or, Some, length, ◌+◌, ◌-◌}
-use Rattle.std.specs.Fmt.{digits}
-use Rattle.std.specs.List.{flat_map}
-use Rattle.nfg_work.proofs.Joined.{closed, shown-last}
+use Rattle.std.proofs.Common.{rules}
+use Rattle.nfg_work.proofs.Joined.{shown-last}
 use Rattle.nfg_work.proofs.printing.append_cluster.Goals as goal
 
 pub returns : goal.returns

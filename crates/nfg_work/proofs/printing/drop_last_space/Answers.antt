@@ -1,4 +1,4 @@
-use Rattle.std.proofs.Common.{◌≡◌, ◌-◌, length, take, ap, ◌∙◌, sym, arith, rules}
+use Rattle.std.proofs.Common.{◌-◌, take, ap, ◌∙◌, rules}
 use Rattle.nfg_work.proofs.Joined.{line-cut, line-none}
 use Rattle.nfg_work.proofs.printing.drop_last_space.Goals as goal
 

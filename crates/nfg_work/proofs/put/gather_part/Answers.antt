@@ -1,4 +1,4 @@
-use Rattle.std.proofs.Common.{◌≡◌, ◌≤◌, ◌++◌, length, Some, None, true, false, pos, slice_index_or, ap, refl, sym, ◌∙◌, arith, w32, to_z, of_z, rules, take}
+use Rattle.std.proofs.Common.{◌≡◌, ◌≤◌, ◌++◌, length, Some, true, false, pos, slice_index_or, ap, refl, sym, ◌∙◌, arith, w32, to_z, of_z, rules}
 use Rattle.nfg_text.specs.Text.{text_of}
 use Rattle.nfg_syn.specs.OwnTexts.{known_of}
 use Rattle.nfg_syn.specs.Represents.{spelling}

@@ -1,2 +1,0 @@
-use Rattle.nfg_work.proofs.Lacking.{all-next, all-stop}
-use Rattle.nfg_work.proofs.put.lacks.Goals as goal

@@ -1,4 +1,4 @@
-use Rattle.std.proofs.Common.{◌≡◌, ap, ◌∙◌, sym, arith, rules, w32, to_z, of_z, pos, nat_abs, length, ◌<◌}
+use Rattle.std.proofs.Common.{◌≡◌, ap, ◌∙◌, arith, rules, w32, to_z, of_z, pos, nat_abs}
 use Rattle.std.proofs.lemmas.Int.{to_z-of_z}
 use Rattle.nfg_syn.specs.OwnTexts.{known_of}
 use Rattle.nfg_syn.specs.Represents.{spelling}

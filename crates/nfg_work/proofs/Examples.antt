@@ -1,0 +1,65 @@
+-- Worked rows of the evaluation.
+use Rattle.std.proofs.Common.{◌≡◌, true, false, List, [], ◌∷◌, codes, Some, Ok, Err, refl}
+use Rattle.std.specs.Fmt.{digits}
+use Rattle.nfg_decode.specs.declared.encoding.Encoding.TheVariants.{Utf8, Latin1}
+use Rattle.nfg_script.specs.declared.command.Command.TheVariants.{Load}
+use Rattle.nfg_script.specs.Script.{NumberedCommand}
+use Rattle.nfg_work.specs.declared.output.Cause.TheVariants.{CannotRead, OutOfRange, TableFull}
+use Rattle.nfg_work.specs.declared.output.FileRead.TheVariants.{Failed}
+use Rattle.nfg_work.specs.Values.{no_value, is_narrow}
+use Rattle.nfg_work.specs.Printing.{shown, shape}
+use Rattle.nfg_work.specs.Evaluation.{takes_place, first_lacking, first_state, define_part, with_places, evaluate}
+
+-- CR LF takes no place
+line_end_takes_none : takes_place (0xD ∷ 0xA ∷ []) ≡ false
+line_end_takes_none = refl
+
+marked_takes_one : takes_place (0x71 ∷ 0x323 ∷ []) ≡ true
+marked_takes_one = refl
+
+-- CR LF is narrow, and é is not
+narrow_text : is_narrow ((0x61 ∷ []) ∷ (0xD ∷ 0xA ∷ []) ∷ []) ≡ true
+narrow_text = refl
+
+wide_text : is_narrow ((0xE9 ∷ []) ∷ []) ≡ false
+wide_text = refl
+
+shown_text : shown ((0xE9 ∷ []) ∷ (0xD ∷ 0xA ∷ []) ∷ (0x71 ∷ []) ∷ []) ≡ codes "E9 D+A 71"
+unfolding digits
+shown_text = refl
+
+shape_of_none : shape [] ≡ codes "strands 0"
+unfolding digits
+shape_of_none = refl
+
+shape_of_one : shape (record { length = 4; times = 1; narrow = true } ∷ []) ≡ codes "strands 1 4x1/8"
+unfolding digits
+shape_of_one = refl
+
+-- a part may start at the end, and no later
+part_at_the_end : define_part (first_state []) no_value 0 5 ≡ Ok (record (first_state []) { values = no_value ∷ [] })
+part_at_the_end = refl
+
+part_past_the_end : define_part (first_state []) no_value 1 0 ≡ Err OutOfRange
+part_past_the_end = refl
+
+-- Latin-1 ends at FF
+lacking_second : first_lacking Latin1 ((0xFF ∷ []) ∷ (0x100 ∷ []) ∷ []) ≡ Some 1
+lacking_second = refl
+
+-- two different clusters and one place
+two_clusters : with_places 1 ((0x71 ∷ 0x323 ∷ []) ∷ (0x71 ∷ 0x307 ∷ []) ∷ []) (first_state []) ≡ Err TableFull
+two_clusters = refl
+
+-- the same cluster twice
+one_cluster : with_places 1 ((0x71 ∷ 0x323 ∷ []) ∷ (0x71 ∷ 0x323 ∷ []) ∷ []) (first_state [])
+    ≡ Ok (record (first_state []) { used = (0x71 ∷ 0x323 ∷ []) ∷ (0x71 ∷ 0x323 ∷ []) ∷ [] })
+one_cluster = refl
+
+-- load a utf8 f, where f can't be read
+load_alone : List NumberedCommand
+load_alone = record { line = 3; command = Load 0 Utf8; path = codes "f"; codes = [] } ∷ []
+
+unread : evaluate load_alone (Failed ∷ []) 16 ≡ record { bytes = []; refused = Some (record { line = 3; cause = CannotRead }) }
+unfolding evaluate load_alone
+unread = refl
