@@ -1,15 +1,18 @@
 -- Numbers for clusters, one after another.
-use Rattle.std.proofs.Common.{◌≡◌, ℕ, List, [], ◌∷◌, ◌++◌, None, Result, Ok, Err, IfOk, IfErr, ℤ, sym, ap, subst, ◌∙◌, append-nil, append_assoc, inl, inr}
+use Rattle.std.proofs.Common.{◌≡◌, ℕ, List, [], ◌∷◌, ◌++◌, None, Result, Ok, Err, IfOk, IfErr, ℤ, sym, ap, subst, pos, negsuc, ◌≤ℤ◌, true, ◌∙◌, append-nil, arith}
+use Rattle.std.proofs.lemmas.Bool.{and_parts}
+use lib.Utf8.{scalar}
+use Rattle.nfg_stream.specs.Collected.{kept_as}
 use Rattle.nfg_strand.specs.Pieces.{flat_piece}
 use Rattle.nfg_strand.specs.Value.{Rope}
 use Rattle.nfg_syn.specs.Known.{Texts, IsSame, IsWithin}
 use Rattle.nfg_syn.specs.Represents.{Represents}
-use Rattle.nfg_syn.specs.RepresentsLaws.{Represents-grows, Represents-push}
+use Rattle.nfg_syn.specs.RepresentsLaws.{Represents-grows, Represents-push, spelling-scalar}
 use Rattle.nfg_syn.specs.Seen.{Seen}
 use Rattle.nfg_stream.specs.declared.error.LoadError.{LoadError}
 use Rattle.nfg_stream.specs.declared.error.LoadError.TheVariants.{Malformed, ClusterLong, RowFull, NoPortion, OutOfMemory}
 use Rattle.nfg_stream.specs.Load.{HasLearned, several, first_long, StopsAt, StopsSomewhere, HasMade}
-use Rattle.nfg_stream.specs.Numbering.{AreNumbered, IsRefused, HasPushed}
+use Rattle.nfg_stream.specs.Numbering.{AreNumbered, HasNumber, IsCluster, IsRefused}
 use Rattle.nfg_stream.proofs.Learned.{HasLearned-same, HasLearned-several, IsSame-refl}
 
 pub Numbered-none : (known : Texts) (numbers : List ℤ) → numbers ≡ [] → AreNumbered [] known known numbers
@@ -19,18 +22,15 @@ Numbered-none known numbers none = record {
 }
 
 -- one cluster more
-pub Numbered-push : (front : List (List ℕ)) (cluster : List ℕ) (old : Texts) (mid new : Seen) (before after : List ℤ)
-    → IsWithin mid.known new.known → AreNumbered front old mid.known before → HasPushed cluster mid new before after (Ok tt)
+pub Numbered-push : (front : List (List ℕ)) (cluster : List ℕ) (old : Texts) (mid new : Seen) (before after : List ℤ) (n : ℤ)
+    → IsWithin mid.known new.known → AreNumbered front old mid.known before → after ≡ before ++ n ∷ [] → HasNumber cluster mid new (Ok n)
     → AreNumbered (front ++ cluster ∷ []) old new.known after
-Numbered-push front cluster old mid new before after within so_far pushed =
-    let n = pushed.0 in
-    let spelled = pushed.2.0 in
-    record {
-      represents =
-          subst (λ ns. Represents new.known ns (front ++ cluster ∷ [])) (sym pushed.1)
-          (Represents-push new.known before front n cluster (Represents-grows mid.known new.known within before front so_far.represents) spelled);
-      learned = HasLearned-several old mid.known new.known front (cluster ∷ []) so_far.learned pushed.2.1;
-    }
+Numbered-push front cluster old mid new before after n within so_far pushed number = record {
+  represents =
+      subst (λ ns. Represents new.known ns (front ++ cluster ∷ [])) (sym pushed)
+      (Represents-push new.known before front n cluster (Represents-grows mid.known new.known within before front so_far.represents) number.0);
+  learned = HasLearned-several old mid.known new.known front (cluster ∷ []) so_far.learned number.1;
+}
 
 stops_at : (clusters front : List (List ℕ)) (cluster : List ℕ) (rest : List (List ℕ)) (old mid new : Texts) (Reason : List ℕ → Type 0)
     → clusters ≡ front ++ cluster ∷ rest → first_long clusters ≡ None → HasLearned old (several front) mid → IsRefused cluster mid new (Reason cluster)
@@ -52,29 +52,24 @@ stops_before : (clusters front : List (List ℕ)) (cluster : List ℕ) (rest : L
 stops_before clusters front cluster rest old mid new parts learned same =
     record { front = front; rest = cluster ∷ rest; parts = parts; learned = HasLearned-same old mid new (several front) learned same }
 
-stops_after : (clusters front : List (List ℕ)) (cluster : List ℕ) (rest : List (List ℕ)) (old mid new : Texts)
-    → clusters ≡ front ++ cluster ∷ rest → HasLearned old (several front) mid → HasLearned mid (several (cluster ∷ [])) new → StopsSomewhere clusters old new
-stops_after clusters front cluster rest old mid new parts learned one = record {
-  front = front ++ cluster ∷ [];
-  rest = rest;
-  parts = parts ∙ sym (append_assoc front (cluster ∷ []) rest);
-  learned = HasLearned-several old mid new front (cluster ∷ []) learned one;
-}
-
 -- a cluster gets no number
-pub made-refused : (clusters front : List (List ℕ)) (cluster : List ℕ) (rest : List (List ℕ)) (old mid new : Seen) (before numbers after : List ℤ) (error : LoadError)
+pub made-refused : (clusters front : List (List ℕ)) (cluster : List ℕ) (rest : List (List ℕ)) (old mid new : Seen) (numbers : List ℤ) (error : LoadError)
     → clusters ≡ front ++ cluster ∷ rest → first_long clusters ≡ None → AreNumbered front old.known mid.known numbers
-    → HasPushed cluster mid new before after (Err error) → HasMade clusters old new (Err error)
-made-refused clusters front cluster rest old mid new before numbers after (Malformed at) parts short so_far never = absurd never
-made-refused clusters front cluster rest old mid new before numbers after (ClusterLong at) parts short so_far never = absurd never
-made-refused clusters front cluster rest old mid new before numbers after RowFull parts short so_far refused =
+    → HasNumber cluster mid new (Err error) → HasMade clusters old new (Err error)
+made-refused clusters front cluster rest old mid new numbers (Malformed at) parts short so_far never = absurd never
+made-refused clusters front cluster rest old mid new numbers (ClusterLong at) parts short so_far never = absurd never
+made-refused clusters front cluster rest old mid new numbers RowFull parts short so_far refused =
     stops_at clusters front cluster rest old.known mid.known new.known new.full parts short so_far.learned refused
-made-refused clusters front cluster rest old mid new before numbers after NoPortion parts short so_far refused =
+made-refused clusters front cluster rest old mid new numbers NoPortion parts short so_far refused =
     stops_at clusters front cluster rest old.known mid.known new.known (λ _. new.drained) parts short so_far.learned refused
-made-refused clusters front cluster rest old mid new before numbers after OutOfMemory parts short so_far (inl same) =
+made-refused clusters front cluster rest old mid new numbers OutOfMemory parts short so_far same =
     stops_before clusters front cluster rest old.known mid.known new.known parts so_far.learned same
-made-refused clusters front cluster rest old mid new before numbers after OutOfMemory parts short so_far (inr one) =
-    stops_after clusters front cluster rest old.known mid.known new.known parts so_far.learned one
+
+-- a code point is its own number
+pub plain-number : (longer : List (List ℕ)) (n : ℤ) (seen : Seen) → pos 0 ≤ℤ n → IsCluster (kept_as longer n) → HasNumber (kept_as longer n) seen seen (Ok n)
+plain-number longer (pos c) seen plain cluster =
+    (spelling-scalar seen.known c (and_parts (scalar c) true cluster.0).0, IsSame-refl seen.known)
+plain-number longer (negsuc k) seen never cluster = absurd (omega (arith, never))
 
 -- all have numbers, and these are a string, or there is no memory for it
 pub made-answer : (clusters : List (List ℕ)) (old new : Seen) (numbers : List ℤ) (result : Result Rope LoadError) → first_long clusters ≡ None

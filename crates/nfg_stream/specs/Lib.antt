@@ -1,3 +1,4 @@
+pub mod Collected
 pub mod Load
 pub mod Numbering
 pub mod Reading

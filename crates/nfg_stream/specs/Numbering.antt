@@ -1,5 +1,5 @@
 -- Clusters become numbers of a table (this project's own).
-use Rattle.std.specs.Prelude.{◌≡◌, ⊤, ℕ, ◌<◌, ◌⊎◌, List, [], ◌∷◌, ◌++◌, length, map, take, Some, Result, Ok, Err, ℤ}
+use Rattle.std.specs.Prelude.{◌≡◌, ⊤, ℕ, ◌<◌, ◌⊎◌, List, [], ◌∷◌, length, map, take, Some, Result, Ok, Err, ℤ}
 use Rattle.nfg_text.specs.Text.{IsText}
 use Rattle.nfg_segment.specs.Given.{Given}
 use Rattle.nfg_syn.specs.Known.{Texts, IsSame, IsUnknown}
@@ -44,14 +44,6 @@ HasNumber cluster old new (Err (ClusterLong at)) = ⊥
 HasNumber cluster old new (Err RowFull) = IsRefused cluster old.known new.known (new.full cluster)
 HasNumber cluster old new (Err NoPortion) = IsRefused cluster old.known new.known new.drained
 HasNumber cluster old new (Err OutOfMemory) = IsSame old.known new.known
-
--- and of the numbers, which gain the cluster's number
-abbrev pub HasPushed : List ℕ → Seen → Seen → List ℤ → List ℤ → Result (Unit {0}) LoadError → Type 0
-HasPushed cluster old new before after (Ok u) =
-    (n : ℤ) × (after ≡ before ++ n ∷ []) × HasNumber cluster old new (Ok n)
-HasPushed cluster old new before after (Err OutOfMemory) =
-    IsSame old.known new.known ⊎ HasLearned old.known (several (cluster ∷ [])) new.known
-HasPushed cluster old new before after (Err error) = HasNumber cluster old new (Err error)
 
 -- numbers for the clusters, which are what the pass has learned
 pub record AreNumbered (clusters : List (List ℕ)) (old new : Texts) (numbers : List ℤ) : Type 0 where

@@ -1,6 +1,7 @@
 //! Files become strings of graphemes in one pass, in pieces.
 #![tactic(auto)]
 
+mod collected;
 mod error;
 mod numbering;
 mod reader;

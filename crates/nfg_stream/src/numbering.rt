@@ -1,11 +1,14 @@
 //! Clusters become numbers, and these a string.
-ghost use Rattle.std.specs.Prelude.{◌≡◌, ◌<◌, ◌≤◌, List, ℕ, None, Err, IfOk, IfErr, length};
+ghost use Rattle.std.specs.Prelude.{◌≡◌, ◌<◌, ◌≤◌, ◌<ℤ◌, List, ℕ, pos, negsuc, None, Err, OnOk, IfOk, IfErr, length, map, set, slice_index_or};
 ghost use Rattle.nfg_strand.specs.Pieces.{flat_piece};
 ghost use Rattle.nfg_syn.specs.Seen.{Keeps, SameCounts};
+ghost use Rattle.nfg_stream.specs.Collected.{kept_as, IsCounted, AreCounted};
 ghost use Rattle.nfg_stream.specs.Load.{HasMade, first_long};
-ghost use Rattle.nfg_stream.specs.Numbering.{IsCluster, AreClusters, Holds, HoldsSome, AreNumbered, HasNumber, HasPushed};
+ghost use Rattle.nfg_stream.specs.Numbering.{IsCluster, AreClusters, Holds, HoldsSome};
+ghost use Rattle.nfg_stream.specs.Numbering.{AreNumbered, HasNumber};
 
 use crate::LoadError;
+use crate::collected::Collected;
 use nfg_segment::Clusters;
 use nfg_strand::NString;
 use nfg_syn::{InternError, Synthetics};
@@ -19,21 +22,23 @@ pub(crate) fn string_from<T: Synthetics>(
     alloc: Global,
     table: &T,
     pass: &mut T::Pass,
-    clusters: &Clusters,
+    clusters: Collected,
 ) -> Result<NString, LoadError>
-    requires clusters { HoldsSome clusters.now }
+    requires clusters { HoldsSome clusters }
     requires table { T.is_of table.now pass.old }
     ensures table { T.is_of table.now pass.new }
     ensures keeps { Keeps (T.seen pass.old) (T.seen pass.new) }
     ensures counts { SameCounts (T.seen pass.old) (T.seen pass.new) }
-    ensures made { (all : List (List ℕ)) → Holds clusters.now all
+    ensures made { (all : List (List ℕ)) → Holds clusters all
         → HasMade all (T.seen pass.old) (T.seen pass.new) result }
 {
-    if let Some(at) = clusters.first_long() {
+    let first_long = clusters.first_long();
+    if let Some(at) = first_long {
         return Err(LoadError::ClusterLong { at: at as u64 });
     }
-    match numbers_of(alloc, table, pass, clusters) {
-        Ok(numbers) => string_over(alloc, &numbers),
+    let (mut numbers, longer) = clusters.into_parts();
+    match number_all(alloc, table, pass, &longer, &mut numbers) {
+        Ok(()) => string_over(alloc, &numbers),
         Err(error) => Err(error),
     }
 }
@@ -53,56 +58,81 @@ fn string_over(alloc: Global, numbers: &[i32]) -> Result<NString, LoadError>
     }
 }
 
-/// The numbers of the clusters in order.
-fn numbers_of<T: Synthetics>(
+/// Puts the table's numbers for the longer clusters.
+fn number_all<T: Synthetics>(
     alloc: Global,
     table: &T,
     pass: &mut T::Pass,
-    clusters: &Clusters,
-) -> Result<Vec<i32>, LoadError>
-    requires clusters { AreClusters clusters.now.heads }
-    requires short { first_long clusters.now.heads ≡ None }
+    longer: &Clusters,
+    numbers: &mut [i32],
+) -> Result<(), LoadError>
+    requires counted { AreCounted (length longer.now.heads) numbers.old }
+    requires clusters { AreClusters (map (kept_as longer.now.heads) numbers.old) }
+    requires short { first_long (map (kept_as longer.now.heads) numbers.old) ≡ None }
     requires table { T.is_of table.now pass.old }
     ensures table { T.is_of table.now pass.new }
     ensures keeps { Keeps (T.seen pass.old) (T.seen pass.new) }
     ensures counts { SameCounts (T.seen pass.old) (T.seen pass.new) }
-    ensures numbers { IfOk result (λ numbers. AreNumbered clusters.now.heads
-        (T.seen pass.old).known (T.seen pass.new).known numbers.items) }
-    ensures refused { IfErr result (λ error. HasMade clusters.now.heads
+    ensures numbers { OnOk result (AreNumbered (map (kept_as longer.now.heads) numbers.old)
+        (T.seen pass.old).known (T.seen pass.new).known numbers.new) }
+    ensures refused { IfErr result (λ error.
+        HasMade (map (kept_as longer.now.heads) numbers.old)
         (T.seen pass.old) (T.seen pass.new) (Err error)) }
 {
-    let mut numbers = Vec::with_capacity(alloc, clusters.len())?;
-    'numbering: for k in 0..clusters.len() {
-        match push_number(alloc, table, pass, clusters.get(k), &mut numbers) {
-            Ok(()) => {}
+    'numbering: for k in 0..numbers.len() {
+        let kept = at(numbers, k);
+        match final_number(alloc, table, pass, longer, kept) {
+            Ok(n) => put(numbers, k, n),
             Err(error) => return Err(error),
         }
     }
-    Ok(numbers)
+    Ok(())
 }
 
-/// Adds the number of the cluster at the end.
-fn push_number<T: Synthetics>(
+fn at(numbers: &[i32], k: usize) -> i32
+    requires { k < length numbers.now }
+    ensures { result ≡ slice_index_or numbers.now k (pos 0) }
+{
+    numbers[k]
+}
+
+fn put(numbers: &mut [i32], k: usize, n: i32)
+    requires { k < length numbers.old }
+    ensures { numbers.new ≡ set numbers.old k n }
+{
+    numbers[k] = n;
+}
+
+/// The number of the cluster that is kept as this one.
+fn final_number<T: Synthetics>(
     alloc: Global,
     table: &T,
     pass: &mut T::Pass,
-    cluster: &[u32],
-    numbers: &mut Vec<i32>,
-) -> Result<(), LoadError>
-    requires cluster { IsCluster cluster.now }
-    requires short { length cluster.now ≤ 1024 }
+    longer: &Clusters,
+    kept: i32,
+) -> Result<i32, LoadError>
+    requires counted { IsCounted (length longer.now.heads) kept }
+    requires cluster { IsCluster (kept_as longer.now.heads kept) }
+    requires short { length (kept_as longer.now.heads kept) ≤ 1024 }
     requires table { T.is_of table.now pass.old }
     ensures table { T.is_of table.now pass.new }
     ensures keeps { Keeps (T.seen pass.old) (T.seen pass.new) }
     ensures counts { SameCounts (T.seen pass.old) (T.seen pass.new) }
-    ensures pushed { HasPushed cluster.now (T.seen pass.old) (T.seen pass.new)
-        numbers.old.items numbers.new.items result }
+    ensures number { HasNumber (kept_as longer.now.heads kept)
+        (T.seen pass.old) (T.seen pass.new) result }
 {
-    let n = number_of(alloc, table, pass, cluster)?;
-    match numbers.push(n) {
-        Ok(()) => Ok(()),
-        Err(_) => Err(LoadError::OutOfMemory),
+    if kept >= 0 {
+        return Ok(kept);
     }
+    let place = place_of(kept);
+    number_of(alloc, table, pass, longer.get(place))
+}
+
+fn place_of(kept: i32) -> usize
+    requires { kept <ℤ pos 0 }
+    ensures { kept ≡ negsuc result }
+{
+    (-1 - kept) as usize
 }
 
 /// The number of a cluster: its code point where it has one alone, else the table's number.

@@ -6,8 +6,9 @@ ghost use Rattle.nfg_decode.specs.Stream.{fed_count};
 ghost use Rattle.nfg_stream.specs.Reading.{IsReading, HasReadSome, HasTaken, HasEnded};
 
 use crate::LoadError;
+use crate::collected::Collected;
 use nfg_decode::{ByteStream, DecodeError, Encoding};
-use nfg_segment::{Clusters, Segmenter};
+use nfg_segment::Segmenter;
 use nfg_text::CodeList;
 use std::alloc::Global;
 
@@ -21,7 +22,7 @@ pub(crate) struct Reader {
     // those of one part; kept for their room alone
     codes: CodeList,
     segmenter: Segmenter,
-    pub(crate) clusters: Clusters,
+    pub(crate) clusters: Collected,
 }
 
 impl Reader {
@@ -34,7 +35,7 @@ impl Reader {
             bytes: ByteStream::new(encoding),
             codes: CodeList::new(alloc),
             segmenter: Segmenter::new(alloc),
-            clusters: Clusters::new(alloc),
+            clusters: Collected::new(alloc),
         }
     }
 

@@ -105,7 +105,7 @@ impl DecodeStream {
         }
         let mut reader = self.reader;
         match reader.end(alloc) {
-            Ok(()) => string_from(alloc, table, pass, &reader.clusters),
+            Ok(()) => string_from(alloc, table, pass, reader.clusters),
             Err(error) => Err(error),
         }
     }

@@ -6,8 +6,9 @@ ghost use Rattle.nfg_syn.specs.Seen.{Keeps, SameCounts};
 ghost use Rattle.nfg_stream.specs.Load.{HasMade};
 
 use crate::LoadError;
+use crate::collected::Collected;
 use crate::numbering::string_from;
-use nfg_segment::{Clusters, Segmenter};
+use nfg_segment::Segmenter;
 use nfg_strand::NString;
 use nfg_syn::Synthetics;
 use std::alloc::Global;
@@ -30,8 +31,8 @@ pub fn string_of<T: Synthetics>(
     ensures made { HasMade (graphemes_of text.now) (T.seen pass.old) (T.seen pass.new) result }
 {
     let mut segmenter = Segmenter::new(alloc);
-    let mut clusters = Clusters::new(alloc);
+    let mut clusters = Collected::new(alloc);
     segmenter.feed(alloc, text, &mut clusters)?;
     segmenter.finish(alloc, &mut clusters)?;
-    string_from(alloc, table, pass, &clusters)
+    string_from(alloc, table, pass, clusters)
 }

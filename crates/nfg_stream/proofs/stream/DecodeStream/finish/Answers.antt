@@ -13,7 +13,7 @@ pub string_from-requires-clause-clusters : goal.string_from-requires-clause-clus
 string_from-requires-clause-clusters g c κs within =
     ended-some c.args.self.reader c.end.new.self.clusters (open-some c.args.self.reader c.args.self.refused c.in_default.is c.args.self.read) c.in-Ok.ensures.ended
 
-pub returns-clause-loaded : goal.returns-clause-loaded
-returns-clause-loaded g c e bytes read =
+pub returns-in-Err-clause-loaded : goal.returns-in-Err-clause-loaded
+returns-in-Err-clause-loaded g c e bytes read =
     loaded-ended c.end.new.self.clusters (decode e bytes) c.in-Err.error (g.T.Synthetics.seen c.args.pass.now)
     (c.in-Err.ensures.ended e bytes (read-reading c.args.self e bytes c.in_default.is read))

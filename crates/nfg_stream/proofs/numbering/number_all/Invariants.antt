@@ -1,12 +1,14 @@
-use Rattle.std.proofs.Common.{take}
+use Rattle.std.proofs.Common.{◌≡◌, take, drop, map}
 use Rattle.nfg_syn.specs.Seen.{Keeps, SameCounts}
+use Rattle.nfg_stream.specs.Collected.{kept_as}
 use Rattle.nfg_stream.specs.Numbering.{AreNumbered}
-use Rattle.nfg_stream.proofs.numbering.numbers_of.Given as goal
+use Rattle.nfg_stream.proofs.numbering.number_all.Given as goal
 
 abbrev pub invariant-numbering : goal.invariant-numbering
 invariant-numbering g l = record {
   table : g.T.Synthetics.is_of l.table l.pass;
   keeps : Keeps (g.T.Synthetics.seen l.fn.pass) (g.T.Synthetics.seen l.pass);
   counts : SameCounts (g.T.Synthetics.seen l.fn.pass) (g.T.Synthetics.seen l.pass);
-  numbered : AreNumbered (take l.k l.clusters.heads) (g.T.Synthetics.seen l.fn.pass).known (g.T.Synthetics.seen l.pass).known l.numbers.items;
+  numbered : AreNumbered (take l.k (map (kept_as l.longer.heads) l.fn.numbers)) (g.T.Synthetics.seen l.fn.pass).known (g.T.Synthetics.seen l.pass).known (take l.k l.numbers);
+  rest : drop l.k l.numbers ≡ drop l.k l.fn.numbers;
 }
