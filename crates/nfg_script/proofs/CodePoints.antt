@@ -1,7 +1,7 @@
 -- Code points that are read one at a time.
 use Rattle.std.proofs.Common.{◌≡◌, ℕ, Bool, true, false, ◌&&◌, List, [], ◌∷◌, ◌++◌, Result, Ok, Err, refl, sym, ap, length, append_assoc, append-nil, cond, nat_le, subst}
 use Rattle.std.specs.Str.{all_scalars}
-use Rattle.nfg_text.specs.Text.{IsText}
+use Rattle.nfg_decode.specs.Text.{IsText}
 use Rattle.nfg_script.specs.declared.error.Reason.{Reason}
 use Rattle.nfg_script.specs.declared.error.Reason.TheVariants.{BadCodePoint}
 use Rattle.nfg_script.specs.Words.{◌>>=◌, code_point_of, code_points_of}

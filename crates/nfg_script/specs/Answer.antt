@@ -32,7 +32,7 @@ abbrev pub line_read : Found → LineRead
 line_read found = record {
   command = found.command;
   path = found.path.now;
-  codes = found.codes;
+  codes = found.codes.items;
   defines = option_map (λ name. name.now) found.defines;
 }
 
@@ -50,7 +50,7 @@ numbered_command kept = record {
   line = kept.number;
   command = kept.command;
   path = string_bytes kept.path;
-  codes = kept.codes;
+  codes = kept.codes.items;
 }
 
 -- the answer of a reader of lines is what reading gives, unless memory ran out

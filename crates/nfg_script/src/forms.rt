@@ -11,7 +11,6 @@ use crate::line_read::{LineError, LineRead};
 use crate::names::{Names, read_known_name, read_new_name};
 use crate::word::{read_encoding, read_number};
 use crate::{Command, Reason};
-use nfg_text::CodeList;
 use std::alloc::Global;
 
 /// `load N ENC PATH`
@@ -29,7 +28,7 @@ fn load_form<'a>(alloc: Global, names: &Names, words: &[&'a str]) -> Result<Line
     Ok(LineRead {
         command: Command::Load { name, enc },
         path: words[2],
-        codes: CodeList::new(alloc),
+        codes: Vec::new(alloc),
         defines: Some(words[0]),
     })
 }
@@ -95,7 +94,7 @@ fn sub_form<'a>(alloc: Global, names: &Names, words: &[&'a str]) -> Result<LineR
             count,
         },
         path: "",
-        codes: CodeList::new(alloc),
+        codes: Vec::new(alloc),
         defines: Some(words[0]),
     })
 }
@@ -107,7 +106,7 @@ fn alone<'a>(alloc: Global, command: Command) -> LineRead<'a>
     LineRead {
         command,
         path: "",
-        codes: CodeList::new(alloc),
+        codes: Vec::new(alloc),
         defines: None,
     }
 }

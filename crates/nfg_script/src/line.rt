@@ -1,8 +1,7 @@
 //! A line of an accepted script.
-ghost use Rattle.nfg_text.specs.Text.{IsText};
+ghost use Rattle.nfg_decode.specs.Text.{IsText};
 
 use crate::Command;
-use nfg_text::CodeList;
 
 /// A command with its line.
 #[derive(Drop)]
@@ -10,6 +9,6 @@ pub(crate) struct Line {
     pub number: u32,
     pub command: Command,
     pub path: String,
-    pub codes: CodeList,
-    ghost is_text: { IsText codes },
+    pub codes: Vec<u32>,
+    ghost is_text: { IsText codes.items },
 }

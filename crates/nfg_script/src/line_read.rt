@@ -1,10 +1,9 @@
 //! What a line gives.
 ghost use Rattle.std.specs.Prelude.{◌≡◌};
-ghost use Rattle.nfg_text.specs.Text.{IsText};
+ghost use Rattle.nfg_decode.specs.Text.{IsText};
 ghost use Rattle.nfg_script.specs.declared.line_read.LineError.TheVariants.{Refused, OutOfMemory as NoMemory};
 
 use crate::{Command, Reason};
-use nfg_text::CodeList;
 use std::alloc::{AllocError, AllocFailed};
 
 /// The command of a line, and what stands beside it.
@@ -14,10 +13,10 @@ pub(crate) struct LineRead<'a> {
     /// The path of a load.
     pub path: &'a str,
     /// The code points of a text.
-    pub codes: CodeList,
+    pub codes: Vec<u32>,
     /// The name that the line defines.
     pub defines: Option<&'a str>,
-    ghost is_text: { IsText codes },
+    ghost is_text: { IsText codes.items },
 }
 
 /// Why a line gives nothing.

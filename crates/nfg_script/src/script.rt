@@ -1,6 +1,6 @@
 //! A script that was accepted.
 ghost use Rattle.std.specs.Prelude.{◌≡◌, ◌<◌, ◌++◌, ◌∷◌, [], true, length, slice_get, IfSome, OnOk, OnErr};
-ghost use Rattle.nfg_text.specs.Text.{IsText};
+ghost use Rattle.nfg_decode.specs.Text.{IsText};
 ghost use Rattle.nfg_script.specs.Script.{is_load, is_text, load_paths};
 ghost use Rattle.nfg_script.specs.Answer.{numbered_command};
 

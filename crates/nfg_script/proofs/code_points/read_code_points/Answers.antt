@@ -1,4 +1,4 @@
-use Rattle.std.proofs.Common.{◌≡◌, ◌∙◌, ap, sym, ◌+◌, [], drop, Ok, Err, arith, rules}
+use Rattle.std.proofs.Common.{◌≡◌, ◌∙◌, ap, sym, ◌+◌, [], drop, Err, arith, rules}
 use Rattle.std.proofs.lemmas.List.{drop_all}
 use Rattle.nfg_script.specs.Answer.{texts}
 use Rattle.nfg_script.specs.Words.{code_points_of}
@@ -33,7 +33,6 @@ returns-clause-codes c =
     sym c.loop-word.invariant
     ∙ ap (λ v. after_codes c.loop-word.codes.items (code_points_of (texts v))) all
     ∙ after_codes-end c.loop-word.codes.items
-    ∙ ap Ok (sym c.from_vec.ensures)
 
 pub returns-clause-text : goal.returns-clause-text
 returns-clause-text c = code_points-text (texts c.args.words.now) _ (returns-clause-codes c)
