@@ -23,6 +23,16 @@ fn flat_one(alloc: Global, g: &[i32]) -> Result<Strand, AllocError>
     Ok(Strand::whole(Arc::new(alloc, block)?))
 }
 
+/// One strand over a block that takes the graphemes over.
+fn flat_vec_one(alloc: Global, g: Vec<i32>) -> Result<Strand, AllocError>
+    requires some { 0 < length g.items }
+    requires bounded { length g.items ≤ 2 ^ 40 }
+    ensures { IfOk result (λ s. s ≡ flat_strand g.items) }
+{
+    let block = Block::from_vec(alloc, g)?;
+    Ok(Strand::whole(Arc::new(alloc, block)?))
+}
+
 /// One strand over a new block of the graphemes of these strands, which are `len`.
 fn flattened_one(alloc: Global, strands: &[Strand], len: u64) -> Result<Strand, AllocError>
     requires counted { len ≡ length (graphemes strands.now) }
@@ -32,7 +42,7 @@ fn flattened_one(alloc: Global, strands: &[Strand], len: u64) -> Result<Strand, 
 {
     let mut all = vec![in alloc; 0; len as usize]?;
     copy(strands, 0, all.as_mut_slice());
-    flat_one(alloc, all.as_slice())
+    flat_vec_one(alloc, all)
 }
 
 /// The strand of these graphemes, or none where there are none.
@@ -45,6 +55,20 @@ pub(crate) fn flat(alloc: Global, g: &[i32]) -> Result<Vec<Strand>, AllocError>
     let mut flat = Vec::new(alloc);
     if !g.is_empty() {
         flat.push(flat_one(alloc, g)?)?;
+    }
+    Ok(flat)
+}
+
+/// The strand of these graphemes over a block that takes them over, or none where there are none.
+pub(crate) fn flat_vec(alloc: Global, g: Vec<i32>) -> Result<Vec<Strand>, AllocError>
+    requires { length g.items ≤ 2 ^ 40 }
+    ensures graphemes { IfOk result (λ flat. graphemes flat.items ≡ g.items) }
+    ensures pieces { IfOk result (λ flat. pieces flat.items ≡ flat_piece g.items) }
+    ensures one { IfOk result (λ flat. length flat.items ≤ 1) }
+{
+    let mut flat = Vec::new(alloc);
+    if !g.is_empty() {
+        flat.push(flat_vec_one(alloc, g)?)?;
     }
     Ok(flat)
 }

@@ -57,6 +57,20 @@ impl NString {
         })
     }
 
+    /// The same of a vector. Where its block has 32 bits a grapheme, the vector becomes the block, and
+    /// no grapheme is copied.
+    pub fn from_vec(alloc: Global, g: Vec<i32>) -> Result<NString, AllocError>
+        requires { length g.items ≤ 2 ^ 40 }
+        ensures graphemes { IfOk result (λ s. s.graphemes ≡ g.items) }
+        ensures pieces { IfOk result (λ s. s.pieces ≡ flat_piece g.items) }
+    {
+        let len = g.len() as u64;
+        Ok(NString {
+            strands: join::flat_vec(alloc, g)?,
+            len,
+        })
+    }
+
     /// How many graphemes the string has, at most 2^40.
     pub fn len(&self) -> u64
         ensures len { result ≡ length self.now.graphemes }
