@@ -9,6 +9,7 @@ use crate::graphemes::Graphemes;
 use crate::piece::Piece;
 use crate::strand::Strand;
 use crate::{cut, join, search};
+use nfg_block::Block;
 use std::alloc::{AllocError, Global};
 use std::marker::Model;
 
@@ -52,7 +53,7 @@ impl NString {
         ensures pieces { IfOk result (λ s. s.pieces ≡ flat_piece g.now) }
     {
         Ok(NString {
-            strands: join::flat(alloc, g)?,
+            strands: join::over(alloc, Block::from_graphemes(alloc, g)?)?,
             len: g.len() as u64,
         })
     }
@@ -66,7 +67,7 @@ impl NString {
     {
         let len = g.len() as u64;
         Ok(NString {
-            strands: join::flat_vec(alloc, g)?,
+            strands: join::over(alloc, Block::from_vec(alloc, g)?)?,
             len,
         })
     }
