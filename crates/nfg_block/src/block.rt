@@ -46,8 +46,7 @@ fn narrowed(alloc: Global, graphemes: &[i32]) -> Result<Vec<i8>, AllocError>
     Ok(cells)
 }
 
-// The same graphemes, with no more than a quarter of their own room unused, if memory can be given
-// back.
+// The same graphemes. Unused room is given back where it is more than a quarter of theirs.
 fn without_spare(mut graphemes: Vec<i32>) -> Vec<i32>
     ensures { result.items ≡ graphemes.items }
 {
@@ -92,7 +91,7 @@ impl Block {
     }
 
     /// The block of these graphemes, or want of memory. Where its cells have 32 bits it keeps the
-    /// vector, and neither copies a grapheme nor takes memory.
+    /// vector: no grapheme is copied, and no memory can be wanting.
     pub fn from_vec(alloc: Global, graphemes: Vec<i32>) -> Result<Block, AllocError>
         ensures block { IfOk result (λ block. block ≡ block_of graphemes.items) }
         // memory can be wanting only for cells of 8 bits
