@@ -1,5 +1,5 @@
 -- A block of graphemes in cells of one width (this project's own).
-use Rattle.std.specs.Prelude.{◌≡◌, ℤ, Bool, true, false, List}
+use Rattle.std.specs.Prelude.{ℤ, Bool, List}
 use Rattle.std.specs.List.{list_all}
 use Rattle.nfg_lanes.specs.Lanes.{is_narrow_grapheme}
 

@@ -1,5 +1,5 @@
 //! A block of graphemes.
-ghost use Rattle.std.specs.Prelude.{◌≡◌, ◌↔◌, ◌+◌, ◌<◌, ◌≤◌, ◌^◌, if◌then◌else◌, nat_lt, IfOk, IsTrue, pos, true, length, slice_index_or};
+ghost use Rattle.std.specs.Prelude.{◌≡◌, ◌↔◌, ◌+◌, ◌<◌, ◌≤◌, ◌^◌, if◌then◌else◌, nat_lt, IfOk, IsOk, IsTrue, pos, true, false, length, slice_index_or};
 ghost use Rattle.std.specs.Ordering.{int_eq};
 ghost use Rattle.std.specs.List.{common_prefix_len, list_all, position_from, position_or_len, slice_range};
 ghost use Rattle.nfg_lanes.specs.Lanes.{is_narrow_grapheme};
@@ -46,6 +46,16 @@ fn narrowed(alloc: Global, graphemes: &[i32]) -> Result<Vec<i8>, AllocError>
     Ok(cells)
 }
 
+// The same graphemes. Unused room is given back where it is more than a quarter of theirs.
+fn without_spare(mut graphemes: Vec<i32>) -> Vec<i32>
+    ensures { result.items ≡ graphemes.items }
+{
+    if graphemes.capacity() - graphemes.len() > graphemes.len() / 4 {
+        graphemes.shrink_to_fit();
+    }
+    graphemes
+}
+
 fn find_narrow(cells: &[i8], x: i32) -> usize
     requires { list_all is_narrow_grapheme cells.now ≡ true }
     ensures { result ≡ position_or_len (λ y. int_eq y x) cells.now }
@@ -68,7 +78,7 @@ fn index_from(from: usize, count: usize, at: usize) -> Option<usize>
 }
 
 impl Block {
-    /// The block of these graphemes, or want of memory. No other call of a block takes any.
+    /// The block of these graphemes, or want of memory.
     pub fn from_graphemes(alloc: Global, graphemes: &[i32]) -> Result<Block, AllocError>
         ensures { IfOk result (λ block. block ≡ block_of graphemes.now) }
     {
@@ -76,6 +86,21 @@ impl Block {
             Cells::Narrow(narrowed(alloc, graphemes)?)
         } else {
             Cells::Wide(graphemes.to_vec(alloc)?)
+        };
+        Ok(Block { cells })
+    }
+
+    /// The block of these graphemes, or want of memory. Where its cells have 32 bits it keeps the
+    /// vector: no grapheme is copied, and no memory can be wanting.
+    pub fn from_vec(alloc: Global, graphemes: Vec<i32>) -> Result<Block, AllocError>
+        ensures block { IfOk result (λ block. block ≡ block_of graphemes.items) }
+        // memory can be wanting only for cells of 8 bits
+        ensures kept { list_all is_narrow_grapheme graphemes.items ≡ false → IsOk result }
+    {
+        let cells = if narrow_fits(graphemes.as_slice()) {
+            Cells::Narrow(narrowed(alloc, graphemes.as_slice())?)
+        } else {
+            Cells::Wide(without_spare(graphemes))
         };
         Ok(Block { cells })
     }

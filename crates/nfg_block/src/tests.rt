@@ -1,5 +1,6 @@
 //! Each call with ample memory, at both widths, and that a block may be shared.
 use crate::Block;
+use std::test::Fail;
 
 fn is_sent<T: Send>(_: &T) {}
 
@@ -35,6 +36,21 @@ fn a_block_keeps_its_graphemes(rt: HostRuntime) {
             }
         }
     }
+}
+
+#[test]
+fn a_block_takes_a_vector_over(rt: HostRuntime) -> Result<(), Fail> {
+    for (graphemes, narrow) in [([97, -1], true), ([97, -2], false)] {
+        let mut list = Vec::with_capacity(rt.alloc(), 64)?;
+        list.extend_from_slice(&graphemes)?;
+        let block = Block::from_vec(rt.alloc(), list)?;
+        assert_eq!(rt; block.is_narrow(), narrow);
+        assert!(rt; block.len() == 2);
+        let mut copied = [0; 2];
+        block.copy_into(0, &mut copied);
+        assert_eq!(rt; copied, graphemes);
+    }
+    Ok(())
 }
 
 #[test]

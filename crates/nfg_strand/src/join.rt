@@ -2,7 +2,7 @@
 
 ghost use Rattle.std.specs.Prelude.{◌≡◌, ◌≤◌, ◌<◌, ◌+◌, ◌*◌, ◌^◌, ◌++◌, ◌∷◌, [], IfOk, length};
 ghost use Rattle.std.specs.List.{repeat};
-ghost use Rattle.nfg_strand.specs.Pieces.{flat_piece, joined, repeat_pieces, at_most_64};
+ghost use Rattle.nfg_strand.specs.Pieces.{piece_or_none, flat_piece, joined, repeat_pieces, at_most_64};
 ghost use Rattle.nfg_strand.specs.Strand.{graphemes_of, piece_of, graphemes, pieces, flat_strand};
 
 use crate::search::copy;
@@ -13,13 +13,14 @@ use std::sync::Arc;
 
 const MOST_STRANDS: usize = 64;
 
-/// One strand over a new block of these graphemes.
-fn flat_one(alloc: Global, g: &[i32]) -> Result<Strand, AllocError>
-    requires some { 0 < length g.now }
-    requires bounded { length g.now ≤ 2 ^ 40 }
-    ensures { IfOk result (λ s. s ≡ flat_strand g.now) }
+/// The whole block as one strand.
+fn whole(alloc: Global, block: Block) -> Result<Strand, AllocError>
+    requires some { 0 < length block.list }
+    requires bounded { length block.list ≤ 2 ^ 40 }
+    ensures unit { IfOk result (λ s. s.unit ≡ block.list) }
+    ensures times { IfOk result (λ s. s.times ≡ 1) }
+    ensures narrow { IfOk result (λ s. s.narrow ≡ block.is_narrow) }
 {
-    let block = Block::from_graphemes(alloc, g)?;
     Ok(Strand::whole(Arc::new(alloc, block)?))
 }
 
@@ -32,21 +33,22 @@ fn flattened_one(alloc: Global, strands: &[Strand], len: u64) -> Result<Strand, 
 {
     let mut all = vec![in alloc; 0; len as usize]?;
     copy(strands, 0, all.as_mut_slice());
-    flat_one(alloc, all.as_slice())
+    whole(alloc, Block::from_vec(alloc, all)?)
 }
 
-/// The strand of these graphemes, or none where there are none.
-pub(crate) fn flat(alloc: Global, g: &[i32]) -> Result<Vec<Strand>, AllocError>
-    requires { length g.now ≤ 2 ^ 40 }
-    ensures graphemes { IfOk result (λ flat. graphemes flat.items ≡ g.now) }
-    ensures pieces { IfOk result (λ flat. pieces flat.items ≡ flat_piece g.now) }
-    ensures one { IfOk result (λ flat. length flat.items ≤ 1) }
+/// The whole block as one strand, or none where it is empty.
+pub(crate) fn over(alloc: Global, block: Block) -> Result<Vec<Strand>, AllocError>
+    requires { length block.list ≤ 2 ^ 40 }
+    ensures graphemes { IfOk result (λ strands. graphemes strands.items ≡ block.list) }
+    ensures pieces { IfOk result (λ strands. pieces strands.items
+        ≡ piece_or_none (length block.list) 1 block.is_narrow) }
+    ensures one { IfOk result (λ strands. length strands.items ≤ 1) }
 {
-    let mut flat = Vec::new(alloc);
-    if !g.is_empty() {
-        flat.push(flat_one(alloc, g)?)?;
+    let mut strands = Vec::new(alloc);
+    if block.len() > 0 {
+        strands.push(whole(alloc, block)?)?;
     }
-    Ok(flat)
+    Ok(strands)
 }
 
 /// One strand with the graphemes of these strands, which are `len`, or none where there are none.

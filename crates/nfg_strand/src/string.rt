@@ -9,6 +9,7 @@ use crate::graphemes::Graphemes;
 use crate::piece::Piece;
 use crate::strand::Strand;
 use crate::{cut, join, search};
+use nfg_block::Block;
 use std::alloc::{AllocError, Global};
 use std::marker::Model;
 
@@ -52,8 +53,22 @@ impl NString {
         ensures pieces { IfOk result (λ s. s.pieces ≡ flat_piece g.now) }
     {
         Ok(NString {
-            strands: join::flat(alloc, g)?,
+            strands: join::over(alloc, Block::from_graphemes(alloc, g)?)?,
             len: g.len() as u64,
+        })
+    }
+
+    /// The same of a vector. Where its block has 32 bits a grapheme, the vector becomes the block, and
+    /// no grapheme is copied.
+    pub fn from_vec(alloc: Global, g: Vec<i32>) -> Result<NString, AllocError>
+        requires { length g.items ≤ 2 ^ 40 }
+        ensures graphemes { IfOk result (λ s. s.graphemes ≡ g.items) }
+        ensures pieces { IfOk result (λ s. s.pieces ≡ flat_piece g.items) }
+    {
+        let len = g.len() as u64;
+        Ok(NString {
+            strands: join::over(alloc, Block::from_vec(alloc, g)?)?,
+            len,
         })
     }
 

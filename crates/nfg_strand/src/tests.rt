@@ -109,6 +109,21 @@ fn a_clip_cuts_repetitions(rt: HostRuntime) -> Result<(), Fail> {
 }
 
 #[test]
+fn a_string_takes_a_vector_over(rt: HostRuntime) -> Result<(), Fail> {
+    let alloc = rt.alloc();
+    let none = NString::from_vec(alloc, Vec::new(alloc))?;
+    has(&rt, alloc, &none, &[], &[])?;
+    for (graphemes, narrow) in [([97, -1, 127], true), ([97, -2, 0], false)] {
+        let mut list = Vec::with_capacity(alloc, 64)?;
+        list.extend_from_slice(&graphemes)?;
+        assert!(rt; list.len() == 3);
+        let s = NString::from_vec(alloc, list)?;
+        has(&rt, alloc, &s, &graphemes, &[(3, 1, narrow)])?;
+    }
+    Ok(())
+}
+
+#[test]
 fn sixty_five_strands_become_one(rt: HostRuntime) -> Result<(), Fail> {
     let alloc = rt.alloc();
     let mut s = NString::empty(alloc);
