@@ -14,7 +14,7 @@ unfinished head is_long memory = record { head = head; is_long = is_long; memory
 reverse-push : (k : List ℕ) (c : ℕ) → reverse (k ++ c ∷ []) ≡ c ∷ reverse k
 reverse-push k c = reverse-append k (c ∷ [])
 
-is_short : (k : List ℕ) → length k ≤ 1024 → is_too_long k ≡ false
+pub is_short : (k : List ℕ) → length k ≤ 1024 → is_too_long k ≡ false
 is_short k h = le-ltb 1024 (length k) h
 
 -- fewer than 1,024 code points are held only of a cluster that is held as a whole

@@ -4,6 +4,7 @@ pub mod KeptLemmas
 pub mod Machine
 pub mod OneCluster
 pub mod PlainSteps
+pub mod Reaching
 pub mod SafeRuns
 pub mod Stable
 pub mod Steps

@@ -3,3 +3,4 @@ pub mod Follows
 pub mod Given
 pub mod Held
 pub mod Kept
+pub mod Reach

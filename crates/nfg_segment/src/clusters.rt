@@ -1,6 +1,7 @@
 //! Clusters in a list.
 ghost use Rattle.std.specs.Prelude.{◌≡◌, ◌<◌, ◌+◌, ℕ, List, [], ◌++◌, length, None, IfOk};
 ghost use Rattle.std.specs.List.{slice_index_or};
+ghost use Rattle.nfg_text.specs.Text.{IsText};
 ghost use Rattle.nfg_segment.specs.Given.{Given, nothing, first_or};
 ghost use Rattle.nfg_segment.specs.Kept.{head_of, AreCounted};
 
@@ -91,6 +92,13 @@ impl ClusterSink for Clusters {
         Ok(())
     }
 
+    fn push_slice(&mut self, head: &[u32], is_long: bool) -> Result<(), AllocError> {
+        let number = number_of_slice(&mut self.longer, head)?;
+        self.numbers.push(number)?;
+        self.first_long = first_or(self.first_long, is_long, self.numbers.len() - 1);
+        Ok(())
+    }
+
     fn push_run(&mut self, run: &[u32]) -> Result<(), AllocError> {
         self.numbers.extend_from_slice(run)?;
         Ok(())
@@ -116,6 +124,25 @@ fn number_of(longer: &mut Texts, head: &[char]) -> Result<u32, AllocError>
         return Err(AllocError);
     }
     longer.push(head)?;
+    Ok(LONGER + index as u32)
+}
+
+/// The number of a cluster that is a slice of a text, which becomes the last of the longer ones
+/// unless it has one code point.
+fn number_of_slice(longer: &mut Texts, head: &[u32]) -> Result<u32, AllocError>
+    requires text { IsText head.now }
+    requires some { 0 < length head.now }
+    ensures number { IfOk result (λ number. (head_of longer.new number ≡ head.now) × (number < 0x8000_0000 + length longer.new)) }
+    ensures grew { (more : List (List ℕ)) × (longer.new ≡ longer.old ++ more) }
+{
+    if head.len() == 1 {
+        return Ok(head[0]);
+    }
+    let index = longer.len();
+    if index >= LONGER as usize {
+        return Err(AllocError);
+    }
+    longer.push_slice(head)?;
     Ok(LONGER + index as u32)
 }
 

@@ -1,5 +1,5 @@
 //! A list of code points that can go back to what it was.
-ghost use Rattle.std.specs.Prelude.{◌≡◌, ◌≤◌, [], ◌∷◌, ◌++◌, false, take, length, OnOk, OnErr, if◌then◌else◌};
+ghost use Rattle.std.specs.Prelude.{◌≡◌, ◌≤◌, ◌+◌, [], ◌∷◌, ◌++◌, false, take, length, OnOk, OnErr, if◌then◌else◌};
 ghost use Rattle.std.specs.Char.{IsScalar};
 ghost use Rattle.nfg_text.specs.Text.{IsText};
 ghost use Rattle.nfg_segment.specs.Draft.{Drafted};
@@ -69,6 +69,7 @@ impl Draft {
     pub(crate) fn extend(&mut self, text: &[u32]) -> Result<(), AllocError>
         requires { IsText text.now }
         ensures current { OnOk result (self.new.current ≡ self.old.current ++ text.now) }
+        ensures within { length self.new.current ≤ length self.old.current + length text.now }
         ensures marked { self.new.marked ≡ self.old.marked }
     {
         self.chars.reserve(text.len())?;

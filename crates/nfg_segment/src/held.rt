@@ -13,6 +13,7 @@ use crate::ClusterSink;
 use crate::draft::{Draft, to_char};
 use crate::open_cluster::OpenCluster;
 use crate::plain::plain_len;
+use crate::safe_run::push_safe;
 use nfg_text::{Kind, append_nfc, compose_pair, is_plain, starts_safely};
 use std::alloc::{AllocError, Global};
 use std::marker::Model;
@@ -134,7 +135,7 @@ impl Held {
         ensures grew { Grew (S.given out.old) (S.given out.new) }
     {
         self.settle(out)?;
-        let n = self.cluster.push_safe(text, out)?;
+        let n = push_safe(&mut self.cluster, text, out)?;
         Ok(n)
     }
 

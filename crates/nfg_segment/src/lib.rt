@@ -10,6 +10,7 @@ mod draft;
 mod held;
 mod open_cluster;
 mod plain;
+mod safe_run;
 mod segmenter;
 mod sink;
 #[cfg(test)]

@@ -1,7 +1,7 @@
 //! The cluster that is not finished.
-ghost use Rattle.std.specs.Prelude.{◌≡◌, ◌<◌, ◌+◌, ℕ, true, List, [], ◌∷◌, ◌++◌, take, length, IsTrue, IfOk, OnOk};
+ghost use Rattle.std.specs.Prelude.{◌≡◌, ◌<◌, ◌+◌, ℕ, false, List, [], ◌∷◌, ◌++◌, take, length, reverse, IsTrue, OnOk};
 ghost use Rattle.std.specs.List.{slice_index_or};
-ghost use Rattle.nfg_text.specs.Breaks.{IsKindOf};
+ghost use Rattle.nfg_text.specs.Breaks.{IsKindOf, Remembers};
 ghost use Rattle.nfg_text.specs.Graphemes.{starts_safely};
 ghost use Rattle.nfg_text.specs.Text.{IsText};
 ghost use Rattle.nfg_segment.specs.Given.{Grew, with_cluster, with_clusters};
@@ -15,9 +15,6 @@ use std::marker::Model;
 
 /// How many code points of a cluster are kept.
 const LONGEST: usize = 1024;
-
-/// How many plain code points in a row are gone on with one by one.
-const ROW: u32 = 3;
 
 /// A cluster that more code points may join, or none.
 #[derive(Drop)]
@@ -82,8 +79,17 @@ impl OpenCluster {
     pub(crate) fn is_some(&self) -> bool
         ensures cluster { (cluster : List ℕ) → Keeps self.now.now cluster → result ≡ is_some cluster }
         ensures head { IsTrue result → 0 < length self.now.now.head }
+        ensures none { result ≡ false → length self.now.now.head ≡ 0 }
     {
         self.head.len() > 0
+    }
+
+    /// What the rules read of the cluster.
+    #[inline]
+    pub(crate) fn memory(&self) -> Memory
+        ensures { (cluster : List ℕ) → Keeps self.now.now cluster → Remembers result (reverse cluster) }
+    {
+        self.memory
     }
 
     /// Whether there is a cluster that ends before the code point.
@@ -161,6 +167,48 @@ impl OpenCluster {
         Ok(())
     }
 
+    /// Goes on with code points of the same cluster, of which the rules then read the memory.
+    pub(crate) fn join_all(&mut self, text: &[u32], memory: Memory) -> Result<(), AllocError>
+        requires { IsText text.now }
+        ensures joined { (cluster : List ℕ) → Keeps self.old.now cluster → Remembers memory (reverse (cluster ++ text.now))
+            → OnOk result (Keeps self.new.now (cluster ++ text.now)) }
+        ensures marked { self.new.marked ≡ self.old.marked }
+    {
+        let room = LONGEST - self.head.len();
+        if text.len() > room {
+            self.head.extend(&text[..room])?;
+            self.is_long = true;
+            self.memory = memory;
+            return Ok(());
+        }
+        self.head.extend(text)?;
+        self.memory = memory;
+        Ok(())
+    }
+
+    /// Gives out the cluster with the code points of it that are still in the text.
+    pub(crate) fn close_with<S: ClusterSink>(
+        &mut self,
+        text: &[u32],
+        memory: Memory,
+        out: &mut S,
+    ) -> Result<(), AllocError>
+        requires text { IsText text.now }
+        requires some { 0 < length self.old.now.head + length text.now }
+        ensures given { (cluster : List ℕ) → Keeps self.old.now cluster → Remembers memory (reverse (cluster ++ text.now))
+            → OnOk result ((Keeps self.new.now []) × (S.given out.new ≡ with_cluster (S.given out.old) (cluster ++ text.now))) }
+        ensures marked { self.new.marked ≡ self.old.marked }
+        ensures grew { Grew (S.given out.old) (S.given out.new) }
+    {
+        if !self.is_some() {
+            give_slice(text, out)?;
+            return Ok(());
+        }
+        self.join_all(text, memory)?;
+        self.close(out)?;
+        Ok(())
+    }
+
     /// Goes on with the next code point of the NFC, which is of this kind.
     #[inline(always)]
     fn push_kind<S: ClusterSink>(
@@ -205,54 +253,23 @@ impl OpenCluster {
         }
         Ok(())
     }
-
-    /// Goes on with code points that start safely, each followed by another, and says where the last
-    /// one is, with which it does not go on. A row of plain ones is left to be taken as a whole.
-    pub(crate) fn push_safe<S: ClusterSink>(
-        &mut self,
-        text: &[u32],
-        out: &mut S,
-    ) -> Result<usize, AllocError>
-        requires text { IsText text.now }
-        requires some { 0 < length text.now }
-        requires first { starts_safely (slice_index_or text.now 0 0) ≡ true }
-        ensures given { (cluster : List ℕ) → Keeps self.old.now cluster
-            → IfOk result (λ n. (Keeps self.new.now (next_all cluster (take n text.now)))
-            × (S.given out.new ≡ with_clusters (S.given out.old) (closed_all cluster (take n text.now)))) }
-        ensures within { IfOk result (λ n. n < length text.now) }
-        ensures safe { IfOk result (λ n. all_safe (take (n + 1) text.now) ≡ true) }
-        ensures marked { self.new.marked ≡ self.old.marked }
-        ensures grew { Grew (S.given out.old) (S.given out.new) }
-    {
-        let mut c = to_char(text[0]);
-        let mut kind = Kind::of(c);
-        let mut at = 0;
-        let mut row = 0;
-        while at + 1 < text.len() {
-            let next = to_char(text[at + 1]);
-            let next_kind = Kind::of(next);
-            row = row_with(row, next_kind);
-            if !next_kind.starts_safely() {
-                return Ok(at);
-            }
-            if row > ROW {
-                return Ok(at);
-            }
-            self.push_kind(c, kind, out)?;
-            c = next;
-            kind = next_kind;
-            at += 1;
-        }
-        Ok(at)
-    }
 }
 
-/// How many plain code points there are in a row, with one code point more.
-#[inline]
-fn row_with(row: u32, next: Kind) -> u32 {
-    if next.is_plain() {
-        row.saturating_add(1)
-    } else {
-        0
+/// Gives out a cluster.
+fn give_slice<S: ClusterSink>(cluster: &[u32], out: &mut S) -> Result<(), AllocError>
+    requires text { IsText cluster.now }
+    requires some { 0 < length cluster.now }
+    ensures given { OnOk result (S.given out.new ≡ with_cluster (S.given out.old) cluster.now) }
+    ensures grew { Grew (S.given out.old) (S.given out.new) }
+{
+    if cluster.len() == 1 {
+        out.push_run(cluster)?;
+        return Ok(());
     }
+    if cluster.len() > LONGEST {
+        out.push_slice(&cluster[..LONGEST], true)?;
+        return Ok(());
+    }
+    out.push_slice(cluster, false)?;
+    Ok(())
 }

@@ -27,6 +27,14 @@ pub trait ClusterSink {
         ensures pushed { OnOk result (given self.new ≡ with_head (given self.old) head.now is_long) }
         ensures grew { Grew (given self.old) (given self.new) };
 
+    /// Takes one cluster more, by a slice of the text.
+    fn push_slice(&mut self, head: &[u32], is_long: bool) -> Result<(), AllocError>
+        requires text { IsText head.now }
+        requires some { 0 < length head.now }
+        requires short { length head.now ≤ 1024 }
+        ensures pushed { OnOk result (given self.new ≡ with_head (given self.old) head.now is_long) }
+        ensures grew { Grew (given self.old) (given self.new) };
+
     /// Takes a run of clusters of one code point each.
     fn push_run(&mut self, run: &[u32]) -> Result<(), AllocError>
         requires { IsText run.now }

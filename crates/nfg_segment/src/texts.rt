@@ -65,6 +65,17 @@ impl Texts {
         self.spans.push(Span { start, end })?;
         Ok(())
     }
+
+    pub(crate) fn push_slice(&mut self, text: &[u32]) -> Result<(), AllocError>
+        ensures pushed { OnOk result (self.new ≡ self.old ++ text.now ∷ []) }
+        ensures grew { (more : List (List ℕ)) × (self.new ≡ self.old ++ more) }
+    {
+        let start = self.codes.len();
+        self.codes.extend_from_slice(text)?;
+        let end = self.codes.len();
+        self.spans.push(Span { start, end })?;
+        Ok(())
+    }
 }
 
 /// The part that a span covers.

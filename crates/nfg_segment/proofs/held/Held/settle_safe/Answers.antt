@@ -13,7 +13,7 @@ returns-clause-settled g c cluster keeps =
     let all = safe-before c.args.text.now n c.in_ok-n.ensures.within c.in_ok-n.ensures.safe in
     let settled = c.in_ok-settle.ensures.settled cluster keeps in
     let pushed = c.in_ok-n.ensures.given (next_all cluster (nfc tail)) (subst (λ h. Keeps h.now.cluster (next_all cluster (nfc tail))) (sym c.self.view_is) settled.0) in (
-      keeps-two c.push_safe.new.self.now cluster tail run all pushed.0,
+      keeps-two c.push_safe.new.open_cluster.now cluster tail run all pushed.0,
       ap (λ h. h.now.tail) c.self.view_is ∙ settled.1,
       given-two (given c.args.out.now) (given c.settle.new.out) (given c.push_safe.new.out) cluster tail run all settled.2 pushed.1,
     )
