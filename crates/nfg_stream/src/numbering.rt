@@ -9,7 +9,7 @@ ghost use Rattle.nfg_stream.specs.Numbering.{AreNumbered, HasNumber};
 
 use crate::LoadError;
 use crate::collected::Collected;
-use nfg_segment::Clusters;
+use crate::longer::Longer;
 use nfg_strand::NString;
 use nfg_syn::{InternError, Synthetics};
 use std::alloc::Global;
@@ -63,20 +63,20 @@ fn number_all<T: Synthetics>(
     alloc: Global,
     table: &T,
     pass: &mut T::Pass,
-    longer: &Clusters,
+    longer: &Longer,
     numbers: &mut [i32],
 ) -> Result<(), LoadError>
-    requires counted { AreCounted (length longer.now.heads) numbers.old }
-    requires clusters { AreClusters (map (kept_as longer.now.heads) numbers.old) }
-    requires short { first_long (map (kept_as longer.now.heads) numbers.old) ≡ None }
+    requires counted { AreCounted (length longer.now) numbers.old }
+    requires clusters { AreClusters (map (kept_as longer.now) numbers.old) }
+    requires short { first_long (map (kept_as longer.now) numbers.old) ≡ None }
     requires table { T.is_of table.now pass.old }
     ensures table { T.is_of table.now pass.new }
     ensures keeps { Keeps (T.seen pass.old) (T.seen pass.new) }
     ensures counts { SameCounts (T.seen pass.old) (T.seen pass.new) }
-    ensures numbers { OnOk result (AreNumbered (map (kept_as longer.now.heads) numbers.old)
+    ensures numbers { OnOk result (AreNumbered (map (kept_as longer.now) numbers.old)
         (T.seen pass.old).known (T.seen pass.new).known numbers.new) }
     ensures refused { IfErr result (λ error.
-        HasMade (map (kept_as longer.now.heads) numbers.old)
+        HasMade (map (kept_as longer.now) numbers.old)
         (T.seen pass.old) (T.seen pass.new) (Err error)) }
 {
     'numbering: for k in 0..numbers.len() {
@@ -108,17 +108,17 @@ fn final_number<T: Synthetics>(
     alloc: Global,
     table: &T,
     pass: &mut T::Pass,
-    longer: &Clusters,
+    longer: &Longer,
     kept: i32,
 ) -> Result<i32, LoadError>
-    requires counted { IsCounted (length longer.now.heads) kept }
-    requires cluster { IsCluster (kept_as longer.now.heads kept) }
-    requires short { length (kept_as longer.now.heads kept) ≤ 1024 }
+    requires counted { IsCounted (length longer.now) kept }
+    requires cluster { IsCluster (kept_as longer.now kept) }
+    requires short { length (kept_as longer.now kept) ≤ 1024 }
     requires table { T.is_of table.now pass.old }
     ensures table { T.is_of table.now pass.new }
     ensures keeps { Keeps (T.seen pass.old) (T.seen pass.new) }
     ensures counts { SameCounts (T.seen pass.old) (T.seen pass.new) }
-    ensures number { HasNumber (kept_as longer.now.heads kept)
+    ensures number { HasNumber (kept_as longer.now kept)
         (T.seen pass.old) (T.seen pass.new) result }
 {
     if kept >= 0 {

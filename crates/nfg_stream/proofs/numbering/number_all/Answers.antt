@@ -13,12 +13,12 @@ final_number-requires-clause-counted g c κs within =
     let k = c.numbering.k in
     let h : k < length c.args.numbers.now = omega (arith, c.numbering-test.true, c.numbering.auto.numbers) in
     let e = back c.at-kept.result c.at-kept.type_inv ∙ c.at-kept.ensures ∙ same_at c.numbering.numbers c.args.numbers.now k (pos 0) c.numbering.invariant.rest in
-    subst (IsCounted (length c.args.longer.now.heads)) (sym e) (IsCounted-at (length c.args.longer.now.heads) c.args.numbers.now k (pos 0) c.requires.counted h)
+    subst (IsCounted (length c.args.longer.now)) (sym e) (IsCounted-at (length c.args.longer.now) c.args.numbers.now k (pos 0) c.requires.counted h)
 
 pub final_number-requires-clause-cluster : goal.final_number-requires-clause-cluster
 final_number-requires-clause-cluster g c κs within =
     let k = c.numbering.k in
-    let longer = c.args.longer.now.heads in
+    let longer = c.args.longer.now in
     let h : k < length c.args.numbers.now = omega (arith, c.numbering-test.true, c.numbering.auto.numbers) in
     let e = ap (kept_as longer) (back c.at-kept.result c.at-kept.type_inv ∙ c.at-kept.ensures) ∙ kept-at longer c.numbering.numbers c.args.numbers.now k c.numbering.invariant.rest h in
     subst IsCluster (sym e) (cluster_at (map (kept_as longer) c.args.numbers.now) k c.requires.clusters (omega (arith, h, length-map c.args.numbers.now (kept_as longer))))
@@ -26,7 +26,7 @@ final_number-requires-clause-cluster g c κs within =
 pub final_number-requires-clause-short : goal.final_number-requires-clause-short
 final_number-requires-clause-short g c κs within =
     let k = c.numbering.k in
-    let longer = c.args.longer.now.heads in
+    let longer = c.args.longer.now in
     let h : k < length c.args.numbers.now = omega (arith, c.numbering-test.true, c.numbering.auto.numbers) in
     let e = ap (kept_as longer) (back c.at-kept.result c.at-kept.type_inv ∙ c.at-kept.ensures) ∙ kept-at longer c.numbering.numbers c.args.numbers.now k c.numbering.invariant.rest h in
     subst (λ t. length t ≤ 1024) (sym e) (cluster_short (map (kept_as longer) c.args.numbers.now) k c.requires.short (omega (arith, h, length-map c.args.numbers.now (kept_as longer))))
@@ -37,7 +37,7 @@ returns-in-Err-clause-keeps g c = Keeps-trans _ _ _ c.numbering.invariant.keeps 
 pub returns-in-Err-clause-refused : goal.returns-in-Err-clause-refused
 returns-in-Err-clause-refused g c =
     let k = c.numbering.k in
-    let longer = c.args.longer.now.heads in
+    let longer = c.args.longer.now in
     let heads = map (kept_as longer) c.args.numbers.now in
     let h : k < length c.args.numbers.now = omega (arith, c.numbering-test.true, c.numbering.auto.numbers) in
     let e = ap (kept_as longer) (back c.at-kept.result c.at-kept.type_inv ∙ c.at-kept.ensures) ∙ kept-at longer c.numbering.numbers c.args.numbers.now k c.numbering.invariant.rest h in
@@ -51,7 +51,7 @@ pub numbering-preserved : goal.numbering-preserved
 numbering-preserved g c =
     let k = c.numbering.k in
     let i = c.numbering.invariant in
-    let longer = c.args.longer.now.heads in
+    let longer = c.args.longer.now in
     let heads = map (kept_as longer) c.args.numbers.now in
     let h : k < length c.args.numbers.now = omega (arith, c.numbering-test.true, c.numbering.auto.numbers) in
     let e = ap (kept_as longer) (back c.at-kept.result c.at-kept.type_inv ∙ c.at-kept.ensures) ∙ kept-at longer c.numbering.numbers c.args.numbers.now k i.rest h in

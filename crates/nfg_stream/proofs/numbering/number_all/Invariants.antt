@@ -9,6 +9,6 @@ invariant-numbering g l = record {
   table : g.T.Synthetics.is_of l.table l.pass;
   keeps : Keeps (g.T.Synthetics.seen l.fn.pass) (g.T.Synthetics.seen l.pass);
   counts : SameCounts (g.T.Synthetics.seen l.fn.pass) (g.T.Synthetics.seen l.pass);
-  numbered : AreNumbered (take l.k (map (kept_as l.longer.heads) l.fn.numbers)) (g.T.Synthetics.seen l.fn.pass).known (g.T.Synthetics.seen l.pass).known (take l.k l.numbers);
+  numbered : AreNumbered (take l.k (map (kept_as l.longer) l.fn.numbers)) (g.T.Synthetics.seen l.fn.pass).known (g.T.Synthetics.seen l.pass).known (take l.k l.numbers);
   rest : drop l.k l.numbers ≡ drop l.k l.fn.numbers;
 }
