@@ -1,7 +1,7 @@
-use Rattle.std.proofs.Common.{◌∙◌, [], map, sym, ap, subst, length, append-nil}
+use Rattle.std.proofs.Common.{◌∙◌, sym, ap, subst, length}
 use Rattle.nfg_text.specs.Plain.{singles}
 use Rattle.nfg_segment.proofs.KeptLemmas.{with_clusters-singles, given_of}
-use Rattle.nfg_stream.specs.Collected.{kept_as, AreCounted}
+use Rattle.nfg_stream.specs.Collected.{AreCounted}
 use Rattle.nfg_stream.proofs.CollectedLemmas.{heads-run, counted-run}
 use Rattle.nfg_stream.proofs.collected.CollectedClusterSink.push_run.Goals as goal
 
