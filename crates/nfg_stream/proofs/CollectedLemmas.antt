@@ -1,5 +1,5 @@
 -- Clusters that are kept as numbers.
-use Rattle.std.proofs.Common.{◌≡◌, ℕ, zero, suc, ◌+◌, ◌-◌, ◌<◌, ◌≤◌, true, Bool, List, [], ◌∷◌, ◌++◌, map, length, take, drop, set, get_or, slice_index_or, Option, ℤ, pos, negsuc, refl, sym, ap, ap₂, subst, ◌∙◌, arith, append-nil, inl, inr, to_z, of_z, w32, lt-ltb}
+use Rattle.std.proofs.Common.{◌≡◌, ℕ, zero, suc, ◌+◌, ◌<◌, ◌≤◌, true, List, [], ◌∷◌, ◌++◌, map, length, take, drop, set, get_or, slice_index_or, ℤ, pos, negsuc, refl, sym, ap, ap₂, subst, ◌∙◌, arith, inl, inr, to_z, of_z, w32, lt-ltb}
 use Rattle.std.specs.Prelude.{T}
 use Rattle.std.proofs.lemmas.Bool.{and_parts}
 use Rattle.std.proofs.lemmas.List.{map-append, take-map, length-append, get_or-drop, get_or-map}

@@ -2,6 +2,7 @@ mod Examples
 pub mod Learned
 pub mod Holding
 pub mod Numbered
+pub mod Interned
 pub mod CollectedLemmas
 pub mod GraphemeTexts
 pub mod ReadingLemmas

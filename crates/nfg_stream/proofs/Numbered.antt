@@ -1,8 +1,8 @@
 -- Numbers for clusters, one after another.
-use Rattle.std.proofs.Common.{◌≡◌, ℕ, List, [], ◌∷◌, ◌++◌, None, Result, Ok, Err, IfOk, IfErr, ℤ, sym, ap, subst, pos, negsuc, ◌≤ℤ◌, true, ◌∙◌, append-nil, arith}
+use Rattle.std.proofs.Common.{◌≡◌, ℕ, List, [], ◌∷◌, ◌++◌, None, Result, Ok, Err, IfOk, IfErr, ℤ, sym, ap, subst, pos, negsuc, ◌≤ℤ◌, true, ◌∙◌, append-nil, arith, length, map}
 use Rattle.std.proofs.lemmas.Bool.{and_parts}
 use lib.Utf8.{scalar}
-use Rattle.nfg_stream.specs.Collected.{kept_as}
+use Rattle.nfg_stream.specs.Collected.{kept_as, AreCounted}
 use Rattle.nfg_strand.specs.Pieces.{flat_piece}
 use Rattle.nfg_strand.specs.Value.{Rope}
 use Rattle.nfg_syn.specs.Known.{Texts, IsSame, IsWithin}
@@ -12,7 +12,7 @@ use Rattle.nfg_syn.specs.Seen.{Seen}
 use Rattle.nfg_stream.specs.declared.error.LoadError.{LoadError}
 use Rattle.nfg_stream.specs.declared.error.LoadError.TheVariants.{Malformed, ClusterLong, RowFull, NoPortion, OutOfMemory}
 use Rattle.nfg_stream.specs.Load.{HasLearned, several, first_long, StopsAt, StopsSomewhere, HasMade}
-use Rattle.nfg_stream.specs.Numbering.{AreNumbered, HasNumber, IsCluster, IsRefused}
+use Rattle.nfg_stream.specs.Numbering.{AreNumbered, AreClusters, HasNumber, IsCluster, IsRefused}
 use Rattle.nfg_stream.proofs.Learned.{HasLearned-same, HasLearned-several, IsSame-refl}
 
 pub Numbered-none : (known : Texts) (numbers : List ℤ) → numbers ≡ [] → AreNumbered [] known known numbers
@@ -84,3 +84,23 @@ made-answer clusters old new numbers (Ok made) short all graphemes pieces none =
 made-answer clusters old new numbers (Err error) short all graphemes pieces is =
     subst (λ e. HasMade clusters old new (Err e)) (sym is)
     (record { front = clusters; rest = []; parts = sym (append-nil clusters); learned = all.learned })
+
+-- where there is no longer cluster, each is a code point
+plain-represents : (longer : List (List ℕ)) (count : ℕ) (known : Texts) (numbers : List ℤ) → count ≡ 0 → AreCounted count numbers → AreClusters (map (kept_as longer) numbers)
+    → Represents known numbers (map (kept_as longer) numbers)
+plain-represents longer count known [] none all are = tt
+plain-represents longer count known (pos c ∷ ns) none all are =
+    (spelling-scalar known c (and_parts (scalar c) true are.0.0).0, plain-represents longer count known ns none all.1 are.1)
+plain-represents longer count known (negsuc k ∷ ns) none all are = let below = all.0 in absurd (omega arith)
+
+plain-learned : (longer : List (List ℕ)) (count : ℕ) (known : Texts) (numbers : List ℤ) → count ≡ 0 → AreCounted count numbers → HasLearned known (several (map (kept_as longer) numbers)) known
+plain-learned longer count known [] none all = IsSame-refl known
+plain-learned longer count known (pos c ∷ ns) none all = plain-learned longer count known ns none all.1
+plain-learned longer count known (negsuc k ∷ ns) none all = let below = all.0 in absurd (omega arith)
+
+pub Numbered-plain : (longer : List (List ℕ)) (known : Texts) (numbers : List ℤ) → length longer ≡ 0 → AreCounted (length longer) numbers
+    → AreClusters (map (kept_as longer) numbers) → AreNumbered (map (kept_as longer) numbers) known known numbers
+Numbered-plain longer known numbers none all are = record {
+  represents = plain-represents longer (length longer) known numbers none all are;
+  learned = plain-learned longer (length longer) known numbers none all;
+}

@@ -1,5 +1,6 @@
 -- Clusters become numbers of a table (this project's own).
-use Rattle.std.specs.Prelude.{◌≡◌, ⊤, ℕ, ◌<◌, ◌⊎◌, List, [], ◌∷◌, length, map, take, Some, Result, Ok, Err, ℤ}
+use Rattle.std.specs.Prelude.{◌≡◌, ◌≢◌, ⊤, ℕ, ◌<◌, List, [], ◌∷◌, length, map, take, Some, Result, Ok, Err, ℤ, pos}
+use Rattle.std.specs.List.{slice_index_or}
 use Rattle.nfg_text.specs.Text.{IsText}
 use Rattle.nfg_segment.specs.Given.{Given}
 use Rattle.nfg_syn.specs.Known.{Texts, IsSame, IsUnknown}
@@ -49,3 +50,9 @@ HasNumber cluster old new (Err OutOfMemory) = IsSame old.known new.known
 pub record AreNumbered (clusters : List (List ℕ)) (old new : Texts) (numbers : List ℤ) : Type 0 where
   pub represents : Represents new numbers clusters
   pub learned : HasLearned old (several clusters) new
+
+-- The longer clusters that have their numbers already: what stands at a place is the number of the
+-- cluster there, or 0.
+abbrev pub AreInterned : List (List ℕ) → Texts → List ℤ → Type 0
+AreInterned longer known interned = (k : ℕ) → slice_index_or interned k (pos 0) ≢ pos 0
+    → spelling known (slice_index_or interned k (pos 0)) ≡ Some (slice_index_or longer k [])

@@ -1,21 +1,20 @@
 //! Clusters as the numbers that a string will have, but for those that a table must number.
 ghost use Rattle.std.specs.Prelude.{◌≡◌, ◌<◌, ◌≤◌, ℕ, ℤ, pos, List, [], ◌∷◌, ◌++◌, length, map, IfOk, OnOk, OnErr};
 ghost use Rattle.nfg_text.specs.Text.{IsText};
-ghost use Rattle.nfg_segment.specs.Given.{Given, Grew, nothing, first_or};
+ghost use Rattle.nfg_segment.specs.Given.{Given, nothing, first_or};
 ghost use Rattle.nfg_stream.specs.Collected.{kept_as, IsCounted, AreCounted};
 
-use nfg_segment::{ClusterSink, Clusters};
+use crate::longer::Longer;
+use nfg_segment::ClusterSink;
 use std::alloc::{AllocError, Global};
 use std::marker::Model;
 
-/// How many longer clusters there are at most.
-const LONGER_LIMIT: usize = 1 << 30;
-
-/// Clusters in order. Most are one code point, and are kept as that number.
+/// Clusters in order. Most are one code point, and are kept as that number. Equal ones of several code
+/// points share a number.
 #[derive(Drop)]
 pub(crate) struct Collected {
     graphemes: Vec<i32>,
-    longer: Clusters,
+    longer: Longer,
     first_long: Option<usize>,
 }
 
@@ -27,11 +26,11 @@ impl Model for Collected {
     ghost Value = { Given };
 
     ghost view = { λ c. record {
-      heads = map (kept_as c.longer.heads) c.graphemes.items;
+      heads = map (kept_as c.longer) c.graphemes.items;
       first_long = c.first_long;
     } };
 
-    ghost invariant = { λ c. AreCounted (length c.longer.heads) c.graphemes.items };
+    ghost invariant = { λ c. AreCounted (length c.longer) c.graphemes.items };
 }
 
 impl Collected {
@@ -41,7 +40,7 @@ impl Collected {
     {
         Collected {
             graphemes: Vec::new(alloc),
-            longer: Clusters::new(alloc),
+            longer: Longer::new(alloc),
             first_long: None,
         }
     }
@@ -54,9 +53,9 @@ impl Collected {
     }
 
     /// The numbers, and the longer clusters that they count.
-    pub(crate) fn into_parts(self) -> (Vec<i32>, Clusters)
-        ensures heads { map (kept_as result.1.heads) result.0.items ≡ self.heads }
-        ensures counted { AreCounted (length result.1.heads) result.0.items }
+    pub(crate) fn into_parts(self) -> (Vec<i32>, Longer)
+        ensures heads { map (kept_as result.1) result.0.items ≡ self.heads }
+        ensures counted { AreCounted (length result.1) result.0.items }
     {
         (self.graphemes, self.longer)
     }
@@ -90,38 +89,30 @@ impl ClusterSink for Collected {
     }
 }
 
-/// The number as which a cluster is kept, which becomes the last of the longer ones unless it has one
-/// code point.
-fn kept(longer: &mut Clusters, head: &[char]) -> Result<i32, AllocError>
+/// The number as which a cluster is kept, which becomes one of the longer ones unless it has one code
+/// point.
+fn kept(longer: &mut Longer, head: &[char]) -> Result<i32, AllocError>
     requires some { 0 < length head.now }
     requires short { length head.now ≤ 1024 }
-    ensures number { IfOk result (λ n. kept_as longer.new.heads n ≡ head.now) }
-    ensures counted { IfOk result (λ n. IsCounted (length longer.new.heads) n) }
-    ensures grew { Grew longer.old longer.new }
+    ensures number { IfOk result (λ n. kept_as longer.new n ≡ head.now) }
+    ensures counted { IfOk result (λ n. IsCounted (length longer.new) n) }
+    ensures grew { (more : List (List ℕ)) × (longer.new ≡ longer.old ++ more) }
 {
     if head.len() == 1 {
         return Ok(head[0] as i32);
     }
-    let index = longer.len();
-    if index >= LONGER_LIMIT {
-        return Err(AllocError);
-    }
-    longer.push(head, false)?;
-    Ok(-1 - index as i32)
+    let place = longer.place_of(head)?;
+    Ok(-1 - place as i32)
 }
 
 /// Adds the number of a cluster at the end.
-fn push_kept(
-    graphemes: &mut Vec<i32>,
-    longer: &mut Clusters,
-    head: &[char],
-) -> Result<(), AllocError>
+fn push_kept(graphemes: &mut Vec<i32>, longer: &mut Longer, head: &[char]) -> Result<(), AllocError>
     requires some { 0 < length head.now }
     requires short { length head.now ≤ 1024 }
     ensures pushed { OnOk result ((n : ℤ) × (graphemes.new.items ≡ graphemes.old.items ++ n ∷ [])
-        × (kept_as longer.new.heads n ≡ head.now) × IsCounted (length longer.new.heads) n) }
+        × (kept_as longer.new n ≡ head.now) × IsCounted (length longer.new) n) }
     ensures none { OnErr result (graphemes.new.items ≡ graphemes.old.items) }
-    ensures grew { Grew longer.old longer.new }
+    ensures grew { (more : List (List ℕ)) × (longer.new ≡ longer.old ++ more) }
 {
     let number = kept(longer, head)?;
     graphemes.push(number)?;

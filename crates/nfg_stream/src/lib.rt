@@ -3,6 +3,7 @@
 
 mod collected;
 mod error;
+mod longer;
 mod numbering;
 mod reader;
 #[cfg(test)]

@@ -4,12 +4,12 @@ ghost use Rattle.nfg_strand.specs.Pieces.{flat_piece};
 ghost use Rattle.nfg_syn.specs.Seen.{Keeps, SameCounts};
 ghost use Rattle.nfg_stream.specs.Collected.{kept_as, IsCounted, AreCounted};
 ghost use Rattle.nfg_stream.specs.Load.{HasMade, first_long};
-ghost use Rattle.nfg_stream.specs.Numbering.{IsCluster, AreClusters, Holds, HoldsSome};
+ghost use Rattle.nfg_stream.specs.Numbering.{IsCluster, AreClusters, AreInterned, Holds, HoldsSome};
 ghost use Rattle.nfg_stream.specs.Numbering.{AreNumbered, HasNumber};
 
 use crate::LoadError;
 use crate::collected::Collected;
-use nfg_segment::Clusters;
+use crate::longer::Longer;
 use nfg_strand::NString;
 use nfg_syn::{InternError, Synthetics};
 use std::alloc::Global;
@@ -63,25 +63,58 @@ fn number_all<T: Synthetics>(
     alloc: Global,
     table: &T,
     pass: &mut T::Pass,
-    longer: &Clusters,
+    longer: &Longer,
     numbers: &mut [i32],
 ) -> Result<(), LoadError>
-    requires counted { AreCounted (length longer.now.heads) numbers.old }
-    requires clusters { AreClusters (map (kept_as longer.now.heads) numbers.old) }
-    requires short { first_long (map (kept_as longer.now.heads) numbers.old) ≡ None }
+    requires counted { AreCounted (length longer.now) numbers.old }
+    requires clusters { AreClusters (map (kept_as longer.now) numbers.old) }
+    requires short { first_long (map (kept_as longer.now) numbers.old) ≡ None }
     requires table { T.is_of table.now pass.old }
     ensures table { T.is_of table.now pass.new }
     ensures keeps { Keeps (T.seen pass.old) (T.seen pass.new) }
     ensures counts { SameCounts (T.seen pass.old) (T.seen pass.new) }
-    ensures numbers { OnOk result (AreNumbered (map (kept_as longer.now.heads) numbers.old)
+    ensures numbers { OnOk result (AreNumbered (map (kept_as longer.now) numbers.old)
         (T.seen pass.old).known (T.seen pass.new).known numbers.new) }
     ensures refused { IfErr result (λ error.
-        HasMade (map (kept_as longer.now.heads) numbers.old)
+        HasMade (map (kept_as longer.now) numbers.old)
+        (T.seen pass.old) (T.seen pass.new) (Err error)) }
+{
+    if longer.len() == 0 {
+        return Ok(());
+    }
+    match vec![in alloc; 0i32; longer.len()] {
+        Ok(mut interned) => number_each(alloc, table, pass, longer, &mut interned, numbers),
+        Err(_) => Err(LoadError::OutOfMemory),
+    }
+}
+
+/// Puts the table's numbers for the longer clusters, none of which has its number yet.
+fn number_each<T: Synthetics>(
+    alloc: Global,
+    table: &T,
+    pass: &mut T::Pass,
+    longer: &Longer,
+    interned: &mut [i32],
+    numbers: &mut [i32],
+) -> Result<(), LoadError>
+    requires room { length interned.old ≡ length longer.now }
+    requires interned { AreInterned longer.now (T.seen pass.old).known interned.old }
+    requires counted { AreCounted (length longer.now) numbers.old }
+    requires clusters { AreClusters (map (kept_as longer.now) numbers.old) }
+    requires short { first_long (map (kept_as longer.now) numbers.old) ≡ None }
+    requires table { T.is_of table.now pass.old }
+    ensures table { T.is_of table.now pass.new }
+    ensures keeps { Keeps (T.seen pass.old) (T.seen pass.new) }
+    ensures counts { SameCounts (T.seen pass.old) (T.seen pass.new) }
+    ensures numbers { OnOk result (AreNumbered (map (kept_as longer.now) numbers.old)
+        (T.seen pass.old).known (T.seen pass.new).known numbers.new) }
+    ensures refused { IfErr result (λ error.
+        HasMade (map (kept_as longer.now) numbers.old)
         (T.seen pass.old) (T.seen pass.new) (Err error)) }
 {
     'numbering: for k in 0..numbers.len() {
         let kept = at(numbers, k);
-        match final_number(alloc, table, pass, longer, kept) {
+        match final_number(alloc, table, pass, longer, interned, kept) {
             Ok(n) => put(numbers, k, n),
             Err(error) => return Err(error),
         }
@@ -103,29 +136,43 @@ fn put(numbers: &mut [i32], k: usize, n: i32)
     numbers[k] = n;
 }
 
-/// The number of the cluster that is kept as this one.
+/// The number of the cluster that is kept as this one, which the table is asked for once.
 fn final_number<T: Synthetics>(
     alloc: Global,
     table: &T,
     pass: &mut T::Pass,
-    longer: &Clusters,
+    longer: &Longer,
+    interned: &mut [i32],
     kept: i32,
 ) -> Result<i32, LoadError>
-    requires counted { IsCounted (length longer.now.heads) kept }
-    requires cluster { IsCluster (kept_as longer.now.heads kept) }
-    requires short { length (kept_as longer.now.heads kept) ≤ 1024 }
+    requires room { length interned.old ≡ length longer.now }
+    requires interned { AreInterned longer.now (T.seen pass.old).known interned.old }
+    requires counted { IsCounted (length longer.now) kept }
+    requires cluster { IsCluster (kept_as longer.now kept) }
+    requires short { length (kept_as longer.now kept) ≤ 1024 }
     requires table { T.is_of table.now pass.old }
     ensures table { T.is_of table.now pass.new }
     ensures keeps { Keeps (T.seen pass.old) (T.seen pass.new) }
     ensures counts { SameCounts (T.seen pass.old) (T.seen pass.new) }
-    ensures number { HasNumber (kept_as longer.now.heads kept)
-        (T.seen pass.old) (T.seen pass.new) result }
+    ensures room { length interned.new ≡ length longer.now }
+    ensures interned { AreInterned longer.now (T.seen pass.new).known interned.new }
+    ensures number { HasNumber (kept_as longer.now kept) (T.seen pass.old) (T.seen pass.new) result }
 {
     if kept >= 0 {
         return Ok(kept);
     }
     let place = place_of(kept);
-    number_of(alloc, table, pass, longer.get(place))
+    let earlier = at(interned, place);
+    if earlier != 0 {
+        return Ok(earlier);
+    }
+    match number_of(alloc, table, pass, longer.get(place)) {
+        Ok(n) => {
+            put(interned, place, n);
+            Ok(n)
+        }
+        Err(error) => Err(error),
+    }
 }
 
 fn place_of(kept: i32) -> usize

@@ -1,4 +1,4 @@
-use Rattle.std.proofs.Common.{◌≡◌, ◌<◌, ◌++◌, ◌∷◌, ◌+◌, [], ℤ, pos, take, map, get_or, ap, sym, ap₂, ◌∙◌, arith, to_z, w32, length}
+use Rattle.std.proofs.Common.{◌<◌, ◌++◌, ◌∷◌, [], pos, take, map, get_or, ap, sym, ap₂, ◌∙◌, arith, w32, length}
 use Rattle.std.proofs.lemmas.List.{take_more, take_more_set, map-append}
 use Rattle.std.proofs.lemmas.Int.{to_z_pos}
 use Rattle.nfg_stream.proofs.CollectedLemmas.{small-at}
