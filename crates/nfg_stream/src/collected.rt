@@ -78,6 +78,12 @@ impl ClusterSink for Collected {
         Ok(())
     }
 
+    fn push_slice(&mut self, head: &[u32], is_long: bool) -> Result<(), AllocError> {
+        push_kept_slice(&mut self.graphemes, &mut self.longer, head)?;
+        self.first_long = first_or(self.first_long, is_long, self.graphemes.len() - 1);
+        Ok(())
+    }
+
     fn push_run(&mut self, run: &[u32]) -> Result<(), AllocError> {
         append_codes(&mut self.graphemes, run)?;
         Ok(())
@@ -115,6 +121,41 @@ fn push_kept(graphemes: &mut Vec<i32>, longer: &mut Longer, head: &[char]) -> Re
     ensures grew { (more : List (List ℕ)) × (longer.new ≡ longer.old ++ more) }
 {
     let number = kept(longer, head)?;
+    graphemes.push(number)?;
+    Ok(())
+}
+
+/// The number as which a slice of a text is kept.
+fn kept_slice(longer: &mut Longer, head: &[u32]) -> Result<i32, AllocError>
+    requires text { IsText head.now }
+    requires some { 0 < length head.now }
+    requires short { length head.now ≤ 1024 }
+    ensures number { IfOk result (λ n. kept_as longer.new n ≡ head.now) }
+    ensures counted { IfOk result (λ n. IsCounted (length longer.new) n) }
+    ensures grew { (more : List (List ℕ)) × (longer.new ≡ longer.old ++ more) }
+{
+    if head.len() == 1 {
+        return Ok(head[0] as i32);
+    }
+    let place = longer.place_of_slice(head)?;
+    Ok(-1 - place as i32)
+}
+
+/// Adds the number of a slice of a text at the end.
+fn push_kept_slice(
+    graphemes: &mut Vec<i32>,
+    longer: &mut Longer,
+    head: &[u32],
+) -> Result<(), AllocError>
+    requires text { IsText head.now }
+    requires some { 0 < length head.now }
+    requires short { length head.now ≤ 1024 }
+    ensures pushed { OnOk result ((n : ℤ) × (graphemes.new.items ≡ graphemes.old.items ++ n ∷ [])
+        × (kept_as longer.new n ≡ head.now) × IsCounted (length longer.new) n) }
+    ensures none { OnErr result (graphemes.new.items ≡ graphemes.old.items) }
+    ensures grew { (more : List (List ℕ)) × (longer.new ≡ longer.old ++ more) }
+{
+    let number = kept_slice(longer, head)?;
     graphemes.push(number)?;
     Ok(())
 }

@@ -1,6 +1,7 @@
 //! The clusters of several code points, of which equal ones are kept once where they are found again.
 ghost use Rattle.std.specs.Prelude.{◌≡◌, ◌<◌, ◌≤◌, ℕ, List, [], ◌∷◌, ◌++◌, length, IfOk, IfErr, OnOk};
 ghost use Rattle.std.specs.List.{slice_index_or};
+ghost use Rattle.nfg_text.specs.Text.{IsText};
 ghost use Rattle.nfg_segment.specs.Given.{Given};
 
 use nfg_segment::{ClusterSink, Clusters};
@@ -87,6 +88,45 @@ impl Longer {
             }
         }
     }
+
+    /// The same of a slice of a text.
+    pub(crate) fn place_of_slice(&mut self, slice: &[u32]) -> Result<usize, AllocError>
+        requires text { IsText slice.now }
+        requires some { 0 < length slice.now }
+        requires short { length slice.now ≤ 1024 }
+        ensures within { IfOk result (λ place. place < length self.new) }
+        ensures few { IfOk result (λ place. place < 0x4000_0000) }
+        ensures place { IfOk result (λ place. slice_index_or self.new place [] ≡ slice.now) }
+        ensures grew { (more : List (List ℕ)) × (self.new ≡ self.old ++ more) }
+    {
+        make_room(&self.texts, &mut self.slots)?;
+        match find(&self.texts, &self.slots, slice) {
+            Ok(place) => Ok(place),
+            Err(slot) => {
+                let place = add_slice(&mut self.texts, slice)?;
+                self.slots[slot] = place as u32;
+                Ok(place)
+            }
+        }
+    }
+}
+
+/// Adds a slice of a text, and gives its place.
+fn add_slice(texts: &mut Clusters, slice: &[u32]) -> Result<usize, AllocError>
+    requires text { IsText slice.now }
+    requires some { 0 < length slice.now }
+    requires short { length slice.now ≤ 1024 }
+    ensures within { IfOk result (λ place. place < length texts.new.heads) }
+    ensures few { IfOk result (λ place. place < 0x4000_0000) }
+    ensures place { IfOk result (λ place. slice_index_or texts.new.heads place [] ≡ slice.now) }
+    ensures grew { (more : List (List ℕ)) × (texts.new.heads ≡ texts.old.heads ++ more) }
+{
+    let place = texts.len();
+    if place >= TEXT_LIMIT {
+        return Err(AllocError);
+    }
+    texts.push_slice(slice, false)?;
+    Ok(place)
 }
 
 /// Copies a text.

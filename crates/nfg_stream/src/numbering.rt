@@ -38,21 +38,21 @@ pub(crate) fn string_from<T: Synthetics>(
     }
     let (mut numbers, longer) = clusters.into_parts();
     match number_all(alloc, table, pass, &longer, &mut numbers) {
-        Ok(()) => string_over(alloc, &numbers),
+        Ok(()) => string_over(alloc, numbers),
         Err(error) => Err(error),
     }
 }
 
 /// The numbers as a string in one piece.
-fn string_over(alloc: Global, numbers: &[i32]) -> Result<NString, LoadError>
-    ensures graphemes { IfOk result (λ made. made.graphemes ≡ numbers.now) }
-    ensures pieces { IfOk result (λ made. made.pieces ≡ flat_piece numbers.now) }
+fn string_over(alloc: Global, numbers: Vec<i32>) -> Result<NString, LoadError>
+    ensures graphemes { IfOk result (λ made. made.graphemes ≡ numbers.items) }
+    ensures pieces { IfOk result (λ made. made.pieces ≡ flat_piece numbers.items) }
     ensures refused { IfErr result (λ error. error ≡ LoadError.OutOfMemory) }
 {
     if numbers.len() > LENGTH_LIMIT {
         return Err(LoadError::OutOfMemory);
     }
-    match NString::from_graphemes(alloc, numbers) {
+    match NString::from_vec(alloc, numbers) {
         Ok(made) => Ok(made),
         Err(_) => Err(LoadError::OutOfMemory),
     }

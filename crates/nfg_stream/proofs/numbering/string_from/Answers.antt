@@ -18,15 +18,15 @@ pub returns-in-Ok-clause-made : goal.returns-in-Ok-clause-made
 returns-in-Ok-clause-made g c all holds =
     let none = sym c.first_long-first_long.ensures ∙ c.in_default.is in
     let size : length c.number_all.new.numbers ≡ c.into_parts-numbers.result.0.len = omega (arith, c.number_all.auto.numbers, c.into_parts-numbers.result.0.ok.0, ap length c.deref_mut.ensures.value) in
-    let written = c.deref.ensures.value ∙ take_at c.number_all.new.numbers _ c.into_parts-numbers.result.0.len size in
-    made-answer all (g.T.Synthetics.seen c.args.pass.now) (g.T.Synthetics.seen c.number_all.new.pass) c.deref.result.now c.string_over.result (sym holds.first_long ∙ none)
+    let written = take_at c.number_all.new.numbers _ c.into_parts-numbers.result.0.len size in
+    made-answer all (g.T.Synthetics.seen c.args.pass.now) (g.T.Synthetics.seen c.number_all.new.pass) _ c.string_over.result (sym holds.first_long ∙ none)
     (subst (λ ns. AreNumbered all (g.T.Synthetics.seen c.args.pass.now).known (g.T.Synthetics.seen c.number_all.new.pass).known ns) (sym written)
     (subst (λ cs. AreNumbered cs (g.T.Synthetics.seen c.args.pass.now).known (g.T.Synthetics.seen c.number_all.new.pass).known c.number_all.new.numbers)
     (ap (map _) c.deref_mut.ensures.value ∙ c.into_parts-numbers.ensures.heads ∙ Holds-short c.args.clusters all holds none) c.in-Ok.ensures.numbers))
     c.string_over.ensures.graphemes c.string_over.ensures.pieces c.string_over.ensures.refused
 
-pub returns-clause-made : goal.returns-clause-made
-returns-clause-made g c all holds =
+pub returns-in-Err-clause-made : goal.returns-in-Err-clause-made
+returns-in-Err-clause-made g c all holds =
     let none = sym c.first_long-first_long.ensures ∙ c.in_default.is in
     subst (λ cs. HasMade cs (g.T.Synthetics.seen c.args.pass.now) (g.T.Synthetics.seen c.number_all.new.pass) (Err c.in-Err.error))
     (ap (map _) c.deref_mut.ensures.value ∙ c.into_parts-numbers.ensures.heads ∙ Holds-short c.args.clusters all holds none) c.in-Err.ensures.refused
