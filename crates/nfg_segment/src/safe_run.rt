@@ -1,5 +1,6 @@
 //! Code points that start safely, one after another.
 ghost use Rattle.std.specs.Prelude.{◌≡◌, ◌<◌, ◌≤◌, ◌+◌, ℕ, true, List, [], take, length, IsTrue, IfOk};
+ghost use Rattle.std.specs.Char.{IsScalar};
 ghost use Rattle.std.specs.List.{slice_index_or};
 ghost use Rattle.nfg_text.specs.Breaks.{IsKindOf};
 ghost use Rattle.nfg_text.specs.Graphemes.{starts_safely};
@@ -43,7 +44,7 @@ pub(crate) fn push_safe<S: ClusterSink>(
     ensures marked { open_cluster.new.marked ≡ open_cluster.old.marked }
     ensures grew { Grew (S.given out.old) (S.given out.new) }
 {
-    let mut kind = Kind::of(to_char(text[0]));
+    let mut kind = kind_of(text[0]);
     let mut reach = Reach {
         start: 0,
         memory: open_cluster.memory(),
@@ -51,7 +52,7 @@ pub(crate) fn push_safe<S: ClusterSink>(
     let mut at = 0;
     let mut row = 0;
     while at + 1 < text.len() {
-        let next_kind = Kind::of(to_char(text[at + 1]));
+        let next_kind = kind_of(text[at + 1]);
         row = row_with(row, next_kind);
         if !next_kind.starts_safely() {
             break;
@@ -136,6 +137,16 @@ fn is_some(open_cluster: &OpenCluster, text: &[u32], at: usize, reach: Reach) ->
         return true;
     }
     open_cluster.is_some()
+}
+
+/// The kind of a code point. It is a call, since the jumps of a table that becomes part of a loop
+/// are foreseen badly.
+#[inline(never)]
+fn kind_of(c: u32) -> Kind
+    requires { IsScalar c }
+    ensures { IsKindOf result c }
+{
+    Kind::of(to_char(c))
 }
 
 /// How many plain code points there are in a row, with one code point more.

@@ -1,5 +1,5 @@
 //! Texts one after another.
-ghost use Rattle.std.specs.Prelude.{◌≡◌, ◌<◌, ℕ, List, [], ◌∷◌, ◌++◌, length, map, OnOk};
+ghost use Rattle.std.specs.Prelude.{◌≡◌, ◌<◌, ◌+◌, ℕ, List, [], ◌∷◌, ◌++◌, length, map, IfOk, OnOk};
 ghost use Rattle.std.specs.List.{slice_index_or};
 ghost use Rattle.nfg_segment.specs.Kept.{spanned, AreWithin};
 
@@ -13,11 +13,14 @@ pub(crate) struct Texts {
     spans: Vec<Span>,
 }
 
+/// The greatest end of a text.
+const LAST: usize = 0xFFFF_FFFF;
+
 /// Where a text begins and ends.
 #[derive(Clone, Copy, Drop)]
 pub(crate) struct Span {
-    start: usize,
-    end: usize,
+    start: u32,
+    end: u32,
 }
 
 impl Model for Texts {
@@ -59,10 +62,9 @@ impl Texts {
         ensures pushed { OnOk result (self.new ≡ self.old ++ text.now ∷ []) }
         ensures grew { (more : List (List ℕ)) × (self.new ≡ self.old ++ more) }
     {
-        let start = self.codes.len();
+        let span = span_from(self.codes.len(), text.len())?;
         extend(&mut self.codes, text)?;
-        let end = self.codes.len();
-        self.spans.push(Span { start, end })?;
+        self.spans.push(span)?;
         Ok(())
     }
 
@@ -70,12 +72,28 @@ impl Texts {
         ensures pushed { OnOk result (self.new ≡ self.old ++ text.now ∷ []) }
         ensures grew { (more : List (List ℕ)) × (self.new ≡ self.old ++ more) }
     {
-        let start = self.codes.len();
+        let span = span_from(self.codes.len(), text.len())?;
         self.codes.extend_from_slice(text)?;
-        let end = self.codes.len();
-        self.spans.push(Span { start, end })?;
+        self.spans.push(span)?;
         Ok(())
     }
+}
+
+/// The span of so many code points from there on.
+#[inline]
+fn span_from(start: usize, len: usize) -> Result<Span, AllocError>
+    ensures { IfOk result (λ span. (span.start ≡ start) × (span.end ≡ start + len)) }
+{
+    if start > LAST {
+        return Err(AllocError);
+    }
+    if len > LAST - start {
+        return Err(AllocError);
+    }
+    Ok(Span {
+        start: start as u32,
+        end: (start + len) as u32,
+    })
 }
 
 /// The part that a span covers.
@@ -84,8 +102,8 @@ fn part<'a>(codes: &'a [u32], spans: &[Span], k: usize) -> &'a [u32]
     requires place { k < length spans.now }
     ensures { result.now ≡ slice_index_or (map (spanned codes.now) spans.now) k [] }
 {
-    let start = spans[k].start;
-    let end = spans[k].end;
+    let start = spans[k].start as usize;
+    let end = spans[k].end as usize;
     &codes[start..end]
 }
 

@@ -1,6 +1,5 @@
 use Rattle.std.proofs.Common.{◌+◌, ◌++◌, ◌∙◌, refl, subst, take, sym, ap, append_assoc, get_or, reverse, arith}
-use Rattle.nfg_text.specs.Breaks.{IsKindOf, Remembers}
-use Rattle.nfg_text.specs.Graphemes.{starts_safely}
+use Rattle.nfg_text.specs.Breaks.{Remembers}
 use Rattle.nfg_segment.specs.Held.{Keeps, next_all}
 use Rattle.nfg_segment.proofs.Machine.{next_all-more, closed_all-more}
 use Rattle.nfg_segment.proofs.Reaching.{slice_text, reaches-same}
@@ -8,8 +7,11 @@ use Rattle.nfg_segment.proofs.SafeRuns.{safe-more}
 use Rattle.nfg_segment.proofs.TextLemmas.{scalar-at}
 use Rattle.nfg_segment.proofs.safe_run.push_safe.Goals as goal
 
-pub to_char-requires-in-loop-at : goal.to_char-requires-in-loop-at
-to_char-requires-in-loop-at g c = scalar-at c.args.text.now (c.loop-at.at + 1) 0 c.requires.text c.loop-at-test.true
+pub kind_of-kind-requires : goal.kind_of-kind-requires
+kind_of-kind-requires g c = scalar-at c.args.text.now 0 0 c.requires.text c.requires.some
+
+pub kind_of-next_kind-requires : goal.kind_of-next_kind-requires
+kind_of-next_kind-requires g c = scalar-at c.args.text.now (c.loop-at.at + 1) 0 c.requires.text c.loop-at-test.true
 
 pub join_all-requires : goal.join_all-requires
 join_all-requires g c = slice_text c.args.text.now c.loop-at.reach.start c.loop-at.at c.requires.text
@@ -23,7 +25,7 @@ loop-at-preserved g c =
     let within = c.loop-at.invariant.within in
     let before = c.loop-at.invariant.grew in
     let after = c.go_on.ensures.grew in
-    let code = c.to_char-in-loop-at in
+    let code = get_or codes (at + 1) 0 in
     record {
       given = λ cluster keeps.
           let so_far = c.loop-at.invariant.given cluster keeps in
@@ -33,9 +35,9 @@ loop-at-preserved g c =
           );
       start = omega (arith, c.in_ok-reach.ensures.start);
       within = c.loop-at-test.true;
-      kind = subst (IsKindOf c.of-next_kind.result) code.ensures c.of-next_kind.ensures;
+      kind = c.kind_of-next_kind.ensures;
       safe = safe-more codes (at + 1) c.loop-at-test.true c.loop-at.invariant.safe
-          (ap starts_safely (sym code.ensures) ∙ sym (c.starts_safely.ensures code.result c.of-next_kind.ensures) ∙ c.if-not-starts_safely.false);
+          (sym (c.starts_safely.ensures code c.kind_of-next_kind.ensures) ∙ c.if-not-starts_safely.false);
       marked = c.go_on.ensures.marked ∙ c.loop-at.invariant.marked;
       grew = (before.0 ++ after.0, after.1 ∙ ap (λ l. l ++ after.0) before.1 ∙ append_assoc (given c.args.out.now).heads before.0 after.0);
     }

@@ -1,4 +1,5 @@
-use Rattle.std.proofs.Common.{◌∙◌, [], sym, append-nil, arith}
+use Rattle.std.proofs.Common.{◌∙◌, [], length, sym, ap, append-nil, arith}
+use Rattle.std.proofs.lemmas.List.{length-append}
 use Rattle.nfg_segment.proofs.KeptLemmas.{texts-unspanned, within-unspanned, within-pushed, texts-pushed}
 use Rattle.nfg_segment.proofs.texts.Texts.push_slice.Goals as goal
 
@@ -18,19 +19,19 @@ returns-in_err-push-clause-grew c =
 pub invariant_of-self-2 : goal.invariant_of-self-2
 invariant_of-self-2 c =
     let s = c.self.inside in
-    within-pushed s.codes.items c.extend_from_slice.new.self.items c.args.text.now s.spans.items c.push.new.self.items record { start = c.len-start.result; end = c.len-end.result } c.self.invariant
-    c.in_ok-extend_from_slice.ensures.items (omega (arith, c.len-start.ensures, s.codes.ok.0)) (omega (arith, c.len-end.ensures, c.extend_from_slice.new.self.ok.0)) c.in_ok-push.ensures.items
+    within-pushed s.codes.items c.extend_from_slice.new.self.items c.args.text.now s.spans.items c.push.new.self.items c.in_ok-span.span c.self.invariant
+    c.in_ok-extend_from_slice.ensures.items (omega (arith, c.in_ok-span.ensures.0)) (omega (arith, c.in_ok-span.ensures.1, ap length c.in_ok-extend_from_slice.ensures.items, length-append s.codes.items c.args.text.now)) c.in_ok-push.ensures.items
 
 pub returns-clause-pushed : goal.returns-clause-pushed
 returns-clause-pushed c =
     let s = c.self.inside in
-    texts-pushed s.codes.items c.extend_from_slice.new.self.items c.args.text.now s.spans.items c.push.new.self.items record { start = c.len-start.result; end = c.len-end.result } c.args.self.now c.self.invariant
-    c.in_ok-extend_from_slice.ensures.items (omega (arith, c.len-start.ensures, s.codes.ok.0)) (omega (arith, c.len-end.ensures, c.extend_from_slice.new.self.ok.0)) c.in_ok-push.ensures.items c.self.view_is
+    texts-pushed s.codes.items c.extend_from_slice.new.self.items c.args.text.now s.spans.items c.push.new.self.items c.in_ok-span.span c.args.self.now c.self.invariant
+    c.in_ok-extend_from_slice.ensures.items (omega (arith, c.in_ok-span.ensures.0)) (omega (arith, c.in_ok-span.ensures.1, ap length c.in_ok-extend_from_slice.ensures.items, length-append s.codes.items c.args.text.now)) c.in_ok-push.ensures.items c.self.view_is
 
 pub returns-clause-grew : goal.returns-clause-grew
 returns-clause-grew c =
     let s = c.self.inside in (
       _,
-      texts-pushed s.codes.items c.extend_from_slice.new.self.items c.args.text.now s.spans.items c.push.new.self.items record { start = c.len-start.result; end = c.len-end.result } c.args.self.now c.self.invariant
-          c.in_ok-extend_from_slice.ensures.items (omega (arith, c.len-start.ensures, s.codes.ok.0)) (omega (arith, c.len-end.ensures, c.extend_from_slice.new.self.ok.0)) c.in_ok-push.ensures.items c.self.view_is,
+      texts-pushed s.codes.items c.extend_from_slice.new.self.items c.args.text.now s.spans.items c.push.new.self.items c.in_ok-span.span c.args.self.now c.self.invariant
+          c.in_ok-extend_from_slice.ensures.items (omega (arith, c.in_ok-span.ensures.0)) (omega (arith, c.in_ok-span.ensures.1, ap length c.in_ok-extend_from_slice.ensures.items, length-append s.codes.items c.args.text.now)) c.in_ok-push.ensures.items c.self.view_is,
     )
