@@ -15,15 +15,16 @@ use crate::open_cluster::OpenCluster;
 use nfg_text::{Kind, Memory};
 use std::alloc::AllocError;
 
-/// How many plain code points in a row are gone on with one by one.
+/// How many clusters of one code point in a row are found one by one before plain ones are left.
 const ROW: u32 = 3;
 
 /// How the open cluster reaches into a text: from `start` on it is still there. And what the rules
-/// read of all of it.
+/// read of all of it, and how many clusters of one code point stand before it in a row.
 #[derive(Clone, Copy)]
 pub(crate) struct Reach {
     start: usize,
     memory: Memory,
+    singles: u32,
 }
 
 /// Goes on with code points that start safely, each followed by another, and says where the last one
@@ -48,16 +49,15 @@ pub(crate) fn push_safe<S: ClusterSink>(
     let mut reach = Reach {
         start: 0,
         memory: open_cluster.memory(),
+        singles: 0,
     };
     let mut at = 0;
-    let mut row = 0;
     while at + 1 < text.len() {
         let next_kind = kind_of(text[at + 1]);
-        row = row_with(row, next_kind);
         if !next_kind.starts_safely() {
             break;
         }
-        if row > ROW {
+        if is_plain_row(reach, next_kind) {
             break;
         }
         reach = go_on(open_cluster, text, at, reach, kind, out)?;
@@ -94,11 +94,13 @@ fn go_on<S: ClusterSink>(
         return Ok(Reach {
             start: at,
             memory: Memory::new().then(kind),
+            singles: singles_with(reach, at),
         });
     }
     Ok(Reach {
         start: reach.start,
         memory: reach.memory.then(kind),
+        singles: reach.singles,
     })
 }
 
@@ -149,12 +151,20 @@ fn kind_of(c: u32) -> Kind
     Kind::of(to_char(c))
 }
 
-/// How many plain code points there are in a row, with one code point more.
-#[inline]
-fn row_with(row: u32, next: Kind) -> u32 {
-    if next.is_plain() {
-        row.saturating_add(1)
+/// How many clusters of one code point there are in a row, with the one that ends there.
+#[inline(always)]
+fn singles_with(reach: Reach, end: usize) -> u32
+    requires { reach.start ≤ end }
+{
+    if end - reach.start == 1 {
+        reach.singles.saturating_add(1)
     } else {
         0
     }
+}
+
+/// Whether a row of clusters of one code point goes on with a plain one.
+#[inline(always)]
+fn is_plain_row(reach: Reach, next: Kind) -> bool {
+    reach.singles >= ROW && next.is_plain()
 }
