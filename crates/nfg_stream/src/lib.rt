@@ -4,6 +4,8 @@
 mod collected;
 mod error;
 mod longer;
+#[cfg(test)]
+mod longer_tests;
 mod numbering;
 mod reader;
 #[cfg(test)]

@@ -375,30 +375,6 @@ fn a_piece_over_64_kib_is_read_in_parts(rt: HostRuntime) -> Result<(), Fail> {
     Ok(())
 }
 
-/// So many clusters of two code points, all different.
-fn push_distinct(text: &mut CodeList, count: u32) -> Result<(), AllocError>
-    requires { count < 1024 }
-{
-    for k in 0..count {
-        text.append(&[0x4E00 + k, 0x301])?;
-    }
-    Ok(())
-}
-
-#[test]
-fn many_clusters_are_numbered_in_the_order_of_the_text(rt: HostRuntime) -> Result<(), Fail> {
-    let alloc = rt.alloc();
-    let (table, mut pass) = OwnTable::new(alloc, 256)?;
-    let mut text = CodeList::new(alloc);
-    let mut numbers = Vec::new(alloc);
-    push_distinct(&mut text, 200)?;
-    push_distinct(&mut text, 200)?;
-    for k in 0..400 {
-        numbers.push(-2 - k % 200)?;
-    }
-    check_text(&rt, alloc, &table, &mut pass, text.as_slice(), &numbers)
-}
-
 #[test]
 fn a_refusal_stays(rt: HostRuntime) -> Result<(), Fail> {
     let alloc = rt.alloc();
