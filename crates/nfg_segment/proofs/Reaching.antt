@@ -1,19 +1,19 @@
 -- The open cluster while it is still a part of a text that is fed.
 use Rattle.std.proofs.Common.{◌≡◌, ℕ, ◌+◌, ◌-◌, ◌<◌, ◌≤◌, zero, suc, Bool, true, false, List, [], ◌∷◌, ◌++◌, take, drop, reverse, length, get_or, refl, sym, ap, ap₂, subst, ◌∙◌, arith, append_assoc, append-nil, lt-ltb, inl, inr, ◌⊎◌}
 use Rattle.std.proofs.lemmas.Bool.{cases_lt}
-use Rattle.std.proofs.lemmas.List.{length-append, length-take-le, length-take, length-drop, length-reverse, take_all, take-append-le, take_more, drop_more, reverse-append}
+use Rattle.std.proofs.lemmas.List.{length-append, length-take-le, length-drop, length-reverse, take_all, take-append-le, take_more, reverse-append}
 use Rattle.std.proofs.Math.Seq.{take-append-add}
 use Rattle.std.specs.List.{slice_range}
-use Rattle.nfg_text.specs.Breaks.{Remembers, IsKindOf}
+use Rattle.nfg_text.specs.Breaks.{Remembers}
 use Rattle.nfg_text.specs.Graphemes.{is_too_long}
 use Rattle.nfg_text.specs.Plain.{singles}
 use Rattle.nfg_text.specs.Text.{IsText}
 use Rattle.nfg_text.specs.declared.breaks.Memory.{Memory}
 use Rattle.nfg_segment.specs.Given.{Given, with_head, with_cluster, with_clusters}
-use Rattle.nfg_segment.specs.Held.{Unfinished, Keeps, is_some, ends_before, closed, left_open, next}
+use Rattle.nfg_segment.specs.Held.{Unfinished, Keeps, is_some, ends_before, next}
 use Rattle.nfg_segment.specs.Reach.{Reaches}
 use Rattle.nfg_segment.specs.declared.safe_run.Reach.{Reach}
-use Rattle.nfg_segment.proofs.Keeping.{unfinished, is_short, closed-ends, left_open-ends, closed-stays, left_open-stays}
+use Rattle.nfg_segment.proofs.Keeping.{unfinished, is_short, left_open-ends, left_open-stays}
 use Rattle.nfg_segment.proofs.TextLemmas.{IsText-take, IsText-drop}
 
 -- ---- slices

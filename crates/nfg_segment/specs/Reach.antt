@@ -1,5 +1,5 @@
 -- The open cluster while it is still a part of a text that is fed (this project's own).
-use Rattle.std.specs.Prelude.{◌≡◌, ℕ, ◌≤◌, List, ◌++◌, reverse}
+use Rattle.std.specs.Prelude.{◌≡◌, ℕ, List, ◌++◌, reverse}
 use Rattle.std.specs.List.{slice_range}
 use Rattle.nfg_text.specs.Breaks.{Remembers}
 use Rattle.nfg_segment.specs.Held.{Unfinished, Keeps}

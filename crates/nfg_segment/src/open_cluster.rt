@@ -1,14 +1,12 @@
 //! The cluster that is not finished.
-ghost use Rattle.std.specs.Prelude.{◌≡◌, ◌<◌, ◌+◌, ℕ, false, List, [], ◌∷◌, ◌++◌, take, length, reverse, IsTrue, OnOk};
-ghost use Rattle.std.specs.List.{slice_index_or};
+ghost use Rattle.std.specs.Prelude.{◌≡◌, ◌<◌, ◌+◌, ℕ, false, List, [], ◌∷◌, ◌++◌, length, reverse, IsTrue, OnOk};
 ghost use Rattle.nfg_text.specs.Breaks.{IsKindOf, Remembers};
-ghost use Rattle.nfg_text.specs.Graphemes.{starts_safely};
 ghost use Rattle.nfg_text.specs.Text.{IsText};
 ghost use Rattle.nfg_segment.specs.Given.{Grew, with_cluster, with_clusters};
-ghost use Rattle.nfg_segment.specs.Held.{Keeps, is_some, ends_before, closed, left_open, next, next_all, closed_all, as_list, all_safe};
+ghost use Rattle.nfg_segment.specs.Held.{Keeps, is_some, ends_before, closed, left_open, next, next_all, closed_all, as_list};
 
 use crate::ClusterSink;
-use crate::draft::{Draft, to_char};
+use crate::draft::Draft;
 use nfg_text::{Kind, Memory};
 use std::alloc::{AllocError, Global};
 use std::marker::Model;

@@ -1,4 +1,4 @@
-use Rattle.std.proofs.Common.{◌&&◌, ◌∷◌, [], true, ◌∙◌, reverse, sym, ap, ap₂, get_or}
+use Rattle.std.proofs.Common.{◌&&◌, ◌∷◌, [], true, ◌∙◌, reverse, sym, ap, get_or}
 use Rattle.nfg_text.specs.Grapheme.{is_grapheme_break}
 use Rattle.nfg_segment.proofs.Reaching.{some-length}
 use Rattle.nfg_segment.proofs.safe_run.ends_before.Goals as goal

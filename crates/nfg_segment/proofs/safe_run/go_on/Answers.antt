@@ -1,4 +1,4 @@
-use Rattle.std.proofs.Common.{◌∷◌, [], ◌++◌, ◌∙◌, reverse, sym, ap, subst, get_or, arith}
+use Rattle.std.proofs.Common.{[], ◌∙◌, reverse, sym, ap, subst, get_or, arith}
 use Rattle.nfg_text.specs.Breaks.{Remembers}
 use Rattle.nfg_segment.specs.Given.{with_cluster, with_clusters}
 use Rattle.nfg_segment.proofs.Keeping.{closed-ends, closed-stays}

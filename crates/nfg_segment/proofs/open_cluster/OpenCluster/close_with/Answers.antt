@@ -1,6 +1,6 @@
-use Rattle.std.proofs.Common.{◌++◌, ◌∙◌, [], sym, ap, subst, arith}
+use Rattle.std.proofs.Common.{◌++◌, ◌∙◌, sym, ap, subst}
 use Rattle.nfg_segment.specs.Given.{with_cluster, with_clusters}
-use Rattle.nfg_segment.specs.Held.{Keeps, is_some}
+use Rattle.nfg_segment.specs.Held.{Keeps}
 use Rattle.nfg_segment.proofs.Keeping.{as_list-some, none-is_nil}
 use Rattle.nfg_segment.proofs.Reaching.{some-append}
 use Rattle.nfg_segment.proofs.open_cluster.OpenCluster.close_with.Goals as goal
