@@ -135,6 +135,9 @@ impl Held {
         ensures grew { Grew (S.given out.old) (S.given out.new) }
     {
         self.settle(out)?;
+        if !goes_on_safely(text) {
+            return Ok(0);
+        }
         let n = push_safe(&mut self.cluster, text, out)?;
         Ok(n)
     }
@@ -304,6 +307,17 @@ impl Held {
         self.cluster.close(out)?;
         Ok(())
     }
+}
+
+/// Whether the text has a second code point that starts safely.
+#[inline]
+fn goes_on_safely(text: &[u32]) -> bool
+    requires { IsText text.now }
+{
+    if text.len() < 2 {
+        return false;
+    }
+    starts_safely(text[1])
 }
 
 /// How many code points that do not start safely the text begins with.
