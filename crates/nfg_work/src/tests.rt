@@ -66,6 +66,16 @@ fn the_seventeenth_cluster_finds_the_table_full(rt: HostRuntime) -> Result<(), F
     Ok(())
 }
 
+#[test]
+fn seventeen_accents_fill_a_table_of_16_places(rt: HostRuntime) -> Result<(), Fail> {
+    let script =
+        b"text t0 71 300\ntext t1 71 301\ntext t2 71 302\ntext t3 71 303\ntext t4 71 304\ntext t5 71 305\ntext t6 71 306\ntext t7 71 307\ntext t8 71 308\ntext t9 71 309\ntext t10 71 30A\ntext t11 71 30B\ntext t12 71 30C\ntext t13 71 30D\ntext t14 71 30E\ntext t15 71 30F\ntext t16 71 310\n";
+    let output = output_of(rt.alloc(), script.as_slice(), &[])?;
+    assert!(rt; output.bytes.as_slice().is_empty());
+    assert!(rt; output.refused == refused(17, Cause::TableFull));
+    Ok(())
+}
+
 /// What a script with one load gives.
 fn output_over(alloc: Global, script: &[u8], file: &[u8]) -> Result<Output, Fail>
     requires { length file.now ≤ 67108864 }
