@@ -46,6 +46,7 @@ impl ByteStream {
     /// before: then, and at every later call. `into` has the codes of all bytes before that place. Where
     /// there is no memory for the codes it answers `OutOfMemory`, and the piece may be fed again. At most
     /// 2^32 bytes are fed in all.
+    #[inline(always)]
     pub fn feed(
         &mut self,
         _alloc: Global,
@@ -80,6 +81,7 @@ impl ByteStream {
     }
 
     /// What a piece of one byte makes of the held bytes, where nothing was malformed before.
+    #[inline(always)]
     fn step(&self, piece: &[u8]) -> Step
         ensures { StepsFrom self.now piece.now result }
     {
@@ -90,6 +92,7 @@ impl ByteStream {
     }
 
     /// Takes a piece. A single byte that ends a sequence or is held takes a short way.
+    #[inline(always)]
     #[tactic(auto, unfolding(crate::specs::Stream::fed_count))]
     fn take_piece(&mut self, piece: &[u8], into: &mut CodeList) -> Result<(), DecodeError>
         requires { fed_count self.old + length piece.now ≤ 2 ^ 32 }
