@@ -28,15 +28,6 @@ fn by_pieces(encoding: Encoding) -> Feeding {
     }
 }
 
-/// Byte by byte, and as many bytes until the list is emptied.
-fn by_bytes(encoding: Encoding) -> Feeding {
-    Feeding {
-        encoding,
-        piece_len: 1,
-        part_len: PIECE,
-    }
-}
-
 /// Feeds the bytes in pieces of a length.
 fn feed_part(
     alloc: Global,
@@ -149,21 +140,34 @@ impl Comparison for Long<'_> {
     }
 }
 
-/// Pieces of 64 KiB beside single bytes.
+/// Pieces of 64 KiB beside single bytes, and how many bytes until the list is emptied.
 #[derive(Drop)]
 struct Pieces<'a> {
     alloc: Global,
     encoding: Encoding,
     bytes: &'a [u8],
+    part_len: usize,
+}
+
+impl Pieces<'_> {
+    /// How many code points the bytes are in pieces of a length.
+    fn count_by(&self, piece_len: usize) -> usize {
+        let feeding = Feeding {
+            encoding: self.encoding,
+            piece_len,
+            part_len: self.part_len,
+        };
+        count(self.alloc, feeding, self.bytes)
+    }
 }
 
 impl Comparison for Pieces<'_> {
     fn fast(&self, _run: usize) -> usize {
-        count(self.alloc, by_pieces(self.encoding), self.bytes)
+        self.count_by(PIECE)
     }
 
     fn plain(&self, _run: usize) -> usize {
-        count(self.alloc, by_bytes(self.encoding), self.bytes)
+        self.count_by(1)
     }
 }
 
@@ -207,15 +211,26 @@ fn report_sample(
             short,
         },
     )?;
-    let bytes = &bytes[..short.min(bytes.len())];
     compare_few(
         rt,
-        " 64 KiB by bytes",
+        " 64 KiB by bytes, into all",
         bytes.len(),
         &Pieces {
             alloc,
             encoding,
             bytes,
+            part_len: usize::MAX,
+        },
+    )?;
+    compare_few(
+        rt,
+        " 64 KiB by bytes, in parts",
+        bytes.len(),
+        &Pieces {
+            alloc,
+            encoding,
+            bytes,
+            part_len: PIECE,
         },
     )
 }
