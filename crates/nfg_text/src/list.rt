@@ -1,5 +1,5 @@
 //! Lists of numbers inside public types, which contracts see as lists.
-ghost use Rattle.std.specs.Prelude.{◌≡◌, ℕ, List, [], ◌++◌, length, take, ◌==◌, IfOk, OnOk, OnErr};
+ghost use Rattle.std.specs.Prelude.{◌≡◌, ℕ, List, [], ◌∷◌, ◌++◌, length, take, ◌==◌, IfOk, OnOk, OnErr};
 
 use std::alloc::{AllocError, Global};
 use std::marker::Model;
@@ -54,6 +54,16 @@ impl CodeList {
         ensures err { OnErr result (self.new ≡ self.old) }
     {
         self.codes.extend_from_slice(more)
+    }
+
+    /// Adds one element at the end.
+    #[inline(always)]
+    pub fn push(&mut self, element: u32) -> Result<(), AllocError>
+        ensures ok { OnOk result (self.new ≡ self.old ++ element ∷ []) }
+        ensures err { OnErr result (self.new ≡ self.old) }
+    {
+        self.codes.push(element)?;
+        Ok(())
     }
 
     /// Makes room for so many more elements, so that adding them grows nothing.
