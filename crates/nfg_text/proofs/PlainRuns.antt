@@ -5,12 +5,13 @@ use Rattle.std.proofs.lemmas.Bool.{and_parts}
 use Rattle.std.proofs.lemmas.List.{reverse-append}
 use Rattle.ucd_breaks.specs.GraphemeClusterBreak.{grapheme_cluster_break}
 use Rattle.ucd_breaks.specs.declared.GraphemeClusterBreak.{GraphemeClusterBreak}
-use Rattle.ucd_breaks.specs.declared.GraphemeClusterBreak.TheVariants.{Other, Lv, Lvt}
+use Rattle.ucd_breaks.specs.declared.GraphemeClusterBreak.TheVariants.{Other, Lv, Lvt, Lf}
 use Rattle.unicode_normalization.specs.Forms.{nfc}
 use Rattle.unicode_segmentation.specs.Grapheme.{break_by_pair, ends_in_pictograph, is_zwj, is_regional, is_grapheme_break}
 use Rattle.nfg_text.specs.Graphemes.{clusters, graphemes_of}
-use Rattle.nfg_text.specs.Laws.{BreaksBefore, GraphemesAtPlain, PlainRunsAreSingles, PlainPairsBreak}
+use Rattle.nfg_text.specs.Laws.{BreaksBefore, GraphemesAtPlain, PlainRunsAreSingles, PlainPairsBreak, PlainBreaksBeforeLineFeed}
 use Rattle.nfg_text.specs.Plain.{is_plain, stands_apart}
+use Rattle.nfg_text.proofs.AsciiFacts.{class_of_line_feed}
 use Rattle.nfg_text.proofs.Cuts.{cut-cons, cut-nil, put_first, put_first-nil}
 use Rattle.nfg_text.proofs.PlainFacts.{plain_stands_apart}
 use Rattle.nfg_text.proofs.SafeStart.{nfc_at_safe_start, safe_starts_stay, graphemes_at_safe_start}
@@ -48,6 +49,17 @@ plain_pairs_break a b before after plain_a plain_b =
     let emoji = and_last (is_zwj (grapheme_cluster_break a) && ends_in_pictograph before) _ right.no_pictograph in
     no_pair_rule (grapheme_cluster_break a) (grapheme_cluster_break b) _ left.class right.class
     (ap not (ap₂ ◌||◌ (ap₂ ◌||◌ (and_last _ _ right.no_consonant) emoji) (and_last _ _ (no_flag (grapheme_cluster_break b) right.class))))
+
+line_feed_apart : (v w : GraphemeClusterBreak) (otherwise : Bool) → stands_apart v ≡ true → w ≡ Lf → unwrap_or (break_by_pair true v w) otherwise ≡ true
+line_feed_apart Other Lf otherwise p e = refl
+line_feed_apart Lv Lf otherwise p e = refl
+line_feed_apart Lvt Lf otherwise p e = refl
+line_feed_apart _ w otherwise p e = cc
+
+pub plain_breaks_before_line_feed : PlainBreaksBeforeLineFeed
+unfolding is_grapheme_break
+plain_breaks_before_line_feed a before after plain =
+    line_feed_apart (grapheme_cluster_break a) (grapheme_cluster_break 0xA) _ (plain_stands_apart a plain).class class_of_line_feed
 
 nfc-push : (x : List ℕ) (a : ℕ) → is_plain a ≡ true → nfc (x ++ a ∷ []) ≡ nfc x ++ a ∷ []
 nfc-push x a plain =

@@ -1,5 +1,5 @@
 -- Facts on the tables of Unicode 18 that the laws of clusters stand on, each about every code point.
-use Rattle.std.specs.Prelude.{◌≡◌, ◌≢◌, ℕ, ◌<◌, Bool, true, false, ◌==◌, List, [], ◌∷◌, ◌⊎◌, Some, None}
+use Rattle.std.specs.Prelude.{◌≡◌, ◌≢◌, ℕ, ◌<◌, ◌≤◌, Bool, true, false, ◌==◌, List, [], ◌∷◌, ◌⊎◌, Some, None}
 use Rattle.ucd_breaks.specs.GraphemeClusterBreak.{grapheme_cluster_break}
 use Rattle.ucd_breaks.specs.declared.GraphemeClusterBreak.{GraphemeClusterBreak}
 use Rattle.ucd_breaks.specs.declared.GraphemeClusterBreak.TheVariants.{Control, Cr, Lf, Extend, SpacingMark, Zwj, Other}
@@ -141,3 +141,7 @@ AsciiCompositesAreOrdinary =
 -- every plain code point stands apart
 abbrev pub PlainStandsApart : Type 0
 PlainStandsApart = (c : ℕ) → is_plain c ≡ true → StandsApart c
+
+-- every code point from 20 to 7E is plain
+abbrev pub PrintableAsciiIsPlain : Type 0
+PrintableAsciiIsPlain = (c : ℕ) → 0x20 ≤ c → c ≤ 0x7E → is_plain c ≡ true

@@ -142,6 +142,12 @@ PlainPairsBreak =
     (a b : ℕ) (before after : List ℕ) → is_plain a ≡ true → is_plain b ≡ true
     → is_grapheme_break true (a ∷ before) (b ∷ after) ≡ true
 
+-- and between a plain code point and a line feed
+abbrev pub PlainBreaksBeforeLineFeed : Type 0
+PlainBreaksBeforeLineFeed =
+    (a : ℕ) (before after : List ℕ) → is_plain a ≡ true
+    → is_grapheme_break true (a ∷ before) (0xA ∷ after) ≡ true
+
 -- the NFC of a text is a text
 abbrev pub NfcOfText : Type 0
 NfcOfText = (t : List ℕ) → IsText t → IsText (nfc t)

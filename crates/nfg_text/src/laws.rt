@@ -1,7 +1,7 @@
 //! The facts on the tables of Unicode and the laws of clusters and normal forms. Each function does nothing: its
 //! clauses are what holds.
-ghost use Rattle.nfg_text.specs.Facts.{ConjunctExtendersExtend, LinkersExtend, LinkersAreNoControls, PictographsAreNoControls, ConsonantsAreNoControls, MarksExtend, ControlsStandAlone, CompositesStartWithStarters, StartersStartWithStarters, CompositesKeepBreaks, AsciiStandsAlone, AsciiPairsBreak, AsciiCompositesAreOrdinary, PlainStandsApart};
-ghost use Rattle.nfg_text.specs.Laws.{ClustersAtBreak, ClustersWhereBroken, ClustersAtLineFeed, NfcAtLineFeed, NfcAtBreak, NfdOfParts, GraphemesDecideEquivalence, GraphemesSpellNfc, ClustersSpellText, GraphemesAtStable, StableLenIsGreatest, GraphemesAtStableLen, ClustersOfParts, PartsAreInNfg, NfcAtSafeStart, SafeStartsStay, ClustersAtSafeStart, GraphemesAtSafeStart, SafeStartsDecide, AllSafeStartsDecide, MemoriesCutAlike, ClustersOfUtf8, GraphemesAtPlain, PlainRunsAreSingles, PlainPairsBreak, NfcOfText, PartsOfText};
+ghost use Rattle.nfg_text.specs.Facts.{ConjunctExtendersExtend, LinkersExtend, LinkersAreNoControls, PictographsAreNoControls, ConsonantsAreNoControls, MarksExtend, ControlsStandAlone, CompositesStartWithStarters, StartersStartWithStarters, CompositesKeepBreaks, AsciiStandsAlone, AsciiPairsBreak, AsciiCompositesAreOrdinary, PlainStandsApart, PrintableAsciiIsPlain};
+ghost use Rattle.nfg_text.specs.Laws.{ClustersAtBreak, ClustersWhereBroken, ClustersAtLineFeed, NfcAtLineFeed, NfcAtBreak, NfdOfParts, GraphemesDecideEquivalence, GraphemesSpellNfc, ClustersSpellText, GraphemesAtStable, StableLenIsGreatest, GraphemesAtStableLen, ClustersOfParts, PartsAreInNfg, NfcAtSafeStart, SafeStartsStay, ClustersAtSafeStart, GraphemesAtSafeStart, SafeStartsDecide, AllSafeStartsDecide, MemoriesCutAlike, ClustersOfUtf8, GraphemesAtPlain, PlainRunsAreSingles, PlainPairsBreak, PlainBreaksBeforeLineFeed, NfcOfText, PartsOfText};
 
 /// Where a text is cut at the end of a cluster, its clusters are those of both parts (UAX #29).
 pub fn clusters_at_break()
@@ -81,6 +81,7 @@ pub fn graphemes_at_plain()
     ensures settled { GraphemesAtPlain }
     ensures singles { PlainRunsAreSingles }
     ensures breaks { PlainPairsBreak }
+    ensures before_line_feed { PlainBreaksBeforeLineFeed }
 {}
 
 /// An Indic extender has the break class Extend or ZWJ; a linker is no control, but may have the class Other.
@@ -120,7 +121,8 @@ pub fn ascii_stands_alone()
     ensures composites { AsciiCompositesAreOrdinary }
 {}
 
-/// Plain code points start safely, and no rule joins two of them.
+/// Plain code points start safely, and no rule joins two of them. Printable ASCII is plain.
 pub fn plain_stands_apart()
-    ensures { PlainStandsApart }
+    ensures apart { PlainStandsApart }
+    ensures printable { PrintableAsciiIsPlain }
 {}

@@ -45,6 +45,14 @@ pub fn is_plain(c: u32) -> bool
     if c < 0x1_0000 {
         return is_plain_by_table(c);
     }
+    is_plain_beyond(c)
+}
+
+/// Whether a code point of the other planes is plain. Few texts have many, so it is a call.
+#[inline(never)]
+fn is_plain_beyond(c: u32) -> bool
+    ensures { result ≡ is_plain c }
+{
     c < 0x11_0000 && is_plain_number(properties_of(c))
 }
 

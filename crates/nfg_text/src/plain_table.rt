@@ -1,9 +1,4 @@
-//! Which code points of the first plane are plain, a bit each: a trie for `ucd_table::get`.
-
-#[rattlefmt::skip]
-pub(crate) static PLAIN_INDEX: [u8; 16] = [
-    0, 1, 2, 3, 4, 5, 6, 7, 8, 9, 10, 11, 12, 13, 14, 15,
-];
+//! Which code points of the first plane are plain, a bit each: 64 of them a word.
 
 #[rattlefmt::skip]
 pub(crate) static PLAIN_WORDS: [u64; 1024] = [
@@ -135,9 +130,4 @@ pub(crate) static PLAIN_WORDS: [u64; 1024] = [
     0x0000039A801AC000, 0x0000C00000000000, 0x0000000000000000, 0xFFFFFFFFFC000000, 0xA08003FF1FFFFFFF, 0xFFFFFFFFFFFF8024, 0xFFFFFFFFFFFFFFFF, 0xFFFFFFFFFFFFFFFF,
     0xFFFFFFFFFFFFFFFF, 0xFFFFFFFFFFFFFFFF, 0xFFFFFFFFFFFFFFFF, 0xFFFFFFFFFFFFFFFF, 0xFFFFFFFFFFFFFFFF, 0xFFFFFFFFFFFFFFFF, 0xFFFFFFFFFFFFFFFF, 0xFFFFFFFFFFFFFFFF,
     0xFFFF0000FFFF0000, 0xFFFFFFFFFFFFFFFF, 0xFFFFFFFFFFFFFFFF, 0x7FFFFFFFFFFFFFFF, 0xFFFFFFFFFFFFFFFF, 0xFFFFFFFFFFFFFFFF, 0xFFFFFFFF3FFFFFFF, 0xF000FFFFFFFFFFFF,
-];
-
-#[rattlefmt::skip]
-pub(crate) static PLAIN_TAIL: [u32; 1] = [
-    0x88000000,
 ];

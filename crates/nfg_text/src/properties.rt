@@ -5,7 +5,7 @@ ghost use Rattle.ucd_derived.specs.IndicConjunctBreak.{indic_conjunct_break_from
 ghost use Rattle.nfg_text.specs.Plain.{is_plain};
 ghost use Rattle.nfg_text.specs.Properties.{properties_number, is_plain_number};
 
-use crate::plain_table::{PLAIN_INDEX, PLAIN_TAIL, PLAIN_WORDS};
+use crate::plain_table::PLAIN_WORDS;
 use crate::property_table::{INDEX, TAIL, WORDS};
 use ucd_breaks::GraphemeClusterBreak;
 use ucd_breaks::GraphemeClusterBreak::*;
@@ -27,7 +27,8 @@ pub(crate) fn is_plain_by_table(c: u32) -> bool
     requires { c < 0x1_0000 }
     ensures { result ≡ is_plain c }
 {
-    ucd_table::get::<1, 64>(&PLAIN_INDEX, &PLAIN_WORDS, &PLAIN_TAIL, c) == 1
+    let word = PLAIN_WORDS[c as usize / 64];
+    (word >> (c % 64)) % 2 == 1
 }
 
 /// Whether the number is that of a plain code point.

@@ -1,5 +1,5 @@
-use Rattle.nfg_text.proofs.Proved.{plain_stands_apart}
+use Rattle.nfg_text.proofs.Proved.{plain_stands_apart, printable_ascii_is_plain}
 use Rattle.nfg_text.proofs.laws.plain_stands_apart.Goals as goal
 
 pub returns : goal.returns
-returns c = plain_stands_apart
+returns c = record { apart = plain_stands_apart; printable = printable_ascii_is_plain }

@@ -1,7 +1,7 @@
 use Rattle.std.proofs.Common.{sym, ap, ◌∙◌, lt-ltb, le-ltb}
 use Rattle.nfg_text.specs.Properties.{is_plain_number}
 use Rattle.nfg_text.proofs.PropertyParts.{is_plain-below, is_plain-above}
-use Rattle.nfg_text.proofs.normal.is_plain.Goals as goal
+use Rattle.nfg_text.proofs.normal.is_plain_beyond.Goals as goal
 
 pub returns-then-c-lt1114112 : goal.returns-then-c-lt1114112
 returns-then-c-lt1114112 c =
