@@ -3,6 +3,7 @@ pub mod Keeping
 pub mod KeptLemmas
 pub mod Machine
 pub mod OneCluster
+pub mod PlainLines
 pub mod PlainSteps
 pub mod Reaching
 pub mod SafeRuns

@@ -1,101 +1,130 @@
--- Runs of plain code points.
-use Rattle.std.proofs.Common.{◌≡◌, ℕ, zero, suc, ◌+◌, ◌<◌, true, false, List, [], ◌∷◌, ◌++◌, length, take, drop, get_or, refl, sym, ap, ap₂, subst, ◌∙◌, arith, append_assoc, append-nil}
-use Rattle.std.proofs.lemmas.Bool.{and_parts, and_from}
+-- What a segmenter knows after plain lines.
+use Rattle.std.proofs.Common.{◌≡◌, ℕ, zero, suc, ◌+◌, ◌<◌, ◌||◌, ◌==◌, true, false, List, [], ◌∷◌, ◌++◌, length, take, get_or, refl, sym, ap, subst, ◌∙◌, arith, append_assoc, append-nil, inl, inr}
 use Rattle.std.proofs.lemmas.List.{length-append, take_more, take_all}
-use Rattle.std.specs.List.{list_all}
 use Rattle.nfg_text.specs.Forms.{nfc}
 use Rattle.nfg_text.specs.Graphemes.{clusters, graphemes_of}
 use Rattle.nfg_text.specs.Plain.{is_plain, AllPlain, singles}
 use Rattle.nfg_text.proofs.AtBreak.{clusters-nil}
-use Rattle.nfg_text.proofs.Proved.{plain_runs_are_singles, plain_stands_apart, line_feed_is_not_plain, safe_starts_stay}
-use Rattle.nfg_segment.specs.Follows.{Follows, IsLone}
+use Rattle.nfg_text.proofs.Proved.{plain_stands_apart, line_feed_is_not_plain, safe_starts_stay}
+use Rattle.nfg_segment.specs.Follows.{Follows, IsApart}
 use Rattle.nfg_segment.specs.Held.{Unfinished, Held, Keeps, is_some}
+use Rattle.nfg_segment.specs.PlainLines.{is_of_plain_lines, ArePlainLines}
 use Rattle.nfg_segment.proofs.Keeping.{none-is_nil}
 use Rattle.nfg_segment.proofs.OneCluster.{clusters-single}
-use Rattle.nfg_segment.proofs.Stable.{stable-but_one, no_line}
+use Rattle.nfg_segment.proofs.PlainLines.{of_lines, plain_lines_are_singles, whole_lines_are_singles, lines-append, lines-plain, lines-take, lines-at}
+use Rattle.nfg_segment.proofs.Stable.{graphemes-nil, stable-all, stable-but_one, no_line}
 use Rattle.nfg_segment.proofs.Steps.{held}
-use Rattle.nfg_segment.proofs.TextLemmas.{take-part}
 
 -- a line feed is not plain
 plain_no_line : (c : ℕ) → is_plain c ≡ true → c ≡ 0xA → ⊥
 plain_no_line c plain e = let clash = sym line_feed_is_not_plain ∙ sym (ap is_plain e) ∙ plain in cc
 
--- the first code points of a plain run are plain
-AllPlain-take : (n : ℕ) (t : List ℕ) → AllPlain t → AllPlain (take n t)
-AllPlain-take zero t all = refl
-AllPlain-take (suc n) [] all = refl
-AllPlain-take (suc n) (c ∷ cs) all = let parts = and_parts (is_plain c) (list_all is_plain cs) all in and_from _ _ parts.0 (AllPlain-take n cs parts.1)
+module _ (h : Held) (o : Unfinished) (fed : List ℕ) (given : List (List ℕ)) (apart : IsApart h fed given) (same : o ≡ h.cluster) where
+  keeps-none : Keeps o []
+  keeps-none = subst (λ u. Keeps u []) (sym same) (subst (Keeps h.cluster) apart.none apart.follows.tracks.keeps)
 
-AllPlain-at : (t : List ℕ) (i d : ℕ) → AllPlain t → i < length t → is_plain (get_or t i d) ≡ true
-AllPlain-at [] i d all within = absurd (omega arith)
-AllPlain-at (c ∷ cs) zero d all within = (and_parts (is_plain c) (list_all is_plain cs) all).0
-AllPlain-at (c ∷ cs) (suc i) d all within = AllPlain-at cs i d (and_parts (is_plain c) (list_all is_plain cs) all).1 (omega arith)
+  -- what follows is cut with what is held
+  goes-apart : (u : List ℕ) → graphemes_of (fed ++ u) ≡ given ++ graphemes_of (h.tail ++ u)
+  goes-apart u = apart.follows.tracks.goes_on u ∙ ap (λ k. given ++ clusters (k ++ nfc (h.tail ++ u))) apart.none
 
--- one plain code point more
-pub AllPlain-more : (t : List ℕ) (i : ℕ) → i < length t → AllPlain (take i t) → is_plain (get_or t i 0) ≡ true → AllPlain (take (i + 1) t)
-AllPlain-more t i within all one = ap (list_all is_plain) (take_more t i 0 within) ∙ push (take i t) (get_or t i 0) all one
-  where
-    push : (xs : List ℕ) (c : ℕ) → AllPlain xs → is_plain c ≡ true → AllPlain (xs ++ c ∷ [])
-    push [] c all one = and_from _ _ one refl
-    push (x ∷ xs) c all one = let parts = and_parts (is_plain x) (list_all is_plain xs) all in and_from _ _ parts.0 (push xs c parts.1 one)
+  -- of plain lines that end in a plain code point, each but that one is given out
+  follows-plain : (tail front : List ℕ) (last : ℕ) → ArePlainLines front → is_plain last ≡ true → tail ≡ last ∷ [] → Follows (held o tail) (fed ++ (front ++ last ∷ [])) (given ++ singles (h.tail ++ front))
+  follows-plain tail front last all plain_last e =
+      record {
+        tracks =
+            record {
+              cluster = [];
+              keeps = keeps-none;
+              one = clusters-nil;
+              goes_on = λ u. goes u ∙ ap (λ l. (given ++ singles (h.tail ++ front)) ++ graphemes_of (l ++ u)) (sym e);
+            };
+        stable = stable-but_one (fed ++ (front ++ last ∷ [])) (given ++ singles (h.tail ++ front)) (omega (arith, ap length whole, length-append (given ++ singles (h.tail ++ front)) ((last ∷ []) ∷ [])))
+            (λ before at. no_line (fed ++ front) last (plain_no_line last plain_last) before (append_assoc fed front (last ∷ []) ∙ at));
+      }
+    where
+      goes : (u : List ℕ) → graphemes_of ((fed ++ (front ++ last ∷ [])) ++ u) ≡ (given ++ singles (h.tail ++ front)) ++ graphemes_of (last ∷ u)
+      goes u =
+          ap graphemes_of (append_assoc fed (front ++ last ∷ []) u ∙ ap (λ l. fed ++ l) (append_assoc front (last ∷ []) u))
+          ∙ goes-apart (front ++ last ∷ u)
+          ∙ ap (λ l. given ++ graphemes_of l) (sym (append_assoc h.tail front (last ∷ u)))
+          ∙ ap (λ l. given ++ l) (plain_lines_are_singles (h.tail ++ front) last u (lines-append h.tail front (lines-plain h.tail apart.plain) all) (ap (λ b. b || (last == 0xA)) plain_last))
+          ∙ sym (append_assoc given (singles (h.tail ++ front)) (graphemes_of (last ∷ u)))
 
--- of plain code points in a row, each but the last is given out
-follows-plain : (h : Held) (o : Unfinished) (tail fed : List ℕ) (given : List (List ℕ)) (p : ℕ) (front : List ℕ) (last : ℕ) → is_plain p ≡ true → AllPlain front → is_plain last ≡ true
-    → IsLone h fed given p → tail ≡ last ∷ [] → o ≡ h.cluster → Follows (held o tail) (fed ++ (front ++ last ∷ [])) (given ++ singles (p ∷ front))
-follows-plain h o tail fed given p front last plain all plain_last lone e same =
-    record {
-      tracks =
-          record {
-            cluster = [];
-            keeps = subst (λ u. Keeps u []) (sym same) (subst (Keeps h.cluster) lone.none lone.follows.tracks.keeps);
-            one = clusters-nil;
-            goes_on = λ u. goes u ∙ ap (λ l. (given ++ singles (p ∷ front)) ++ graphemes_of (l ++ u)) (sym e);
-          };
-      stable = stable-but_one (fed ++ (front ++ last ∷ [])) (given ++ singles (p ∷ front)) (omega (arith, ap length whole, length-append (given ++ singles (p ∷ front)) ((last ∷ []) ∷ [])))
-          (λ before at. no_line (fed ++ front) last (plain_no_line last plain_last) before (append_assoc fed front (last ∷ []) ∙ at));
-    }
-  where
-    goes : (u : List ℕ) → graphemes_of ((fed ++ (front ++ last ∷ [])) ++ u) ≡ (given ++ singles (p ∷ front)) ++ graphemes_of (last ∷ u)
-    goes u =
-        ap graphemes_of (append_assoc fed (front ++ last ∷ []) u ∙ ap (λ l. fed ++ l) (append_assoc front (last ∷ []) u))
-        ∙ lone.follows.tracks.goes_on (front ++ last ∷ u)
-        ∙ ap₂ (λ k t. given ++ clusters (k ++ nfc (t ++ (front ++ last ∷ u)))) lone.none lone.tail
-        ∙ ap (λ l. given ++ l) (plain_runs_are_singles (p ∷ front) last u (and_from _ _ plain all) plain_last)
-        ∙ sym (append_assoc given (singles (p ∷ front)) (graphemes_of (last ∷ u)))
+      whole : graphemes_of (fed ++ (front ++ last ∷ [])) ≡ (given ++ singles (h.tail ++ front)) ++ (last ∷ []) ∷ []
+      whole =
+          ap graphemes_of (sym (append-nil (fed ++ (front ++ last ∷ [])))) ∙ goes []
+          ∙ ap (λ l. (given ++ singles (h.tail ++ front)) ++ l) (ap clusters (safe_starts_stay last (plain_stands_apart last plain_last).safe) ∙ clusters-single last)
 
-    whole : graphemes_of (fed ++ (front ++ last ∷ [])) ≡ (given ++ singles (p ∷ front)) ++ (last ∷ []) ∷ []
-    whole =
-        ap graphemes_of (sym (append-nil (fed ++ (front ++ last ∷ [])))) ∙ goes []
-        ∙ ap (λ l. (given ++ singles (p ∷ front)) ++ l) (ap clusters (safe_starts_stay last (plain_stands_apart last plain_last).safe) ∙ clusters-single last)
+  -- of those that end in a line feed, all is given out
+  follows-line_feed : (tail front : List ℕ) → ArePlainLines front → tail ≡ [] → Follows (held o tail) (fed ++ (front ++ 0xA ∷ [])) (given ++ singles (h.tail ++ (front ++ 0xA ∷ [])))
+  follows-line_feed tail front all e =
+      record {
+        tracks =
+            record {
+              cluster = [];
+              keeps = keeps-none;
+              one = clusters-nil;
+              goes_on = λ u. goes u ∙ ap (λ l. (given ++ singles (h.tail ++ lines)) ++ graphemes_of (l ++ u)) (sym e);
+            };
+        stable = stable-all (fed ++ lines) (given ++ singles (h.tail ++ lines)) (omega (arith, ap length whole));
+      }
+    where
+      lines : List ℕ
+      lines = front ++ 0xA ∷ []
 
-pub follows-run : (h : Held) (o : Unfinished) (tail fed : List ℕ) (given : List (List ℕ)) (p : ℕ) (run : List ℕ) (end last d : ℕ) → is_plain p ≡ true → AllPlain run → IsLone h fed given p
-    → end + 1 ≡ length run → last ≡ get_or run end d → tail ≡ last ∷ [] → o ≡ h.cluster → Follows (held o tail) (fed ++ run) (given ++ singles (p ∷ take end run))
-follows-run h o tail fed given p run end last d plain all lone size at e same =
-    let within : end < length run = omega (arith, size) in
-    let parts : take end run ++ last ∷ [] ≡ run =
-    ap (λ l. take end run ++ l ∷ []) (at ∙ get_or-default run end d 0 within) ∙ sym (take_more run end 0 within) ∙ take_all (end + 1) run (omega (arith, size)) in
-    subst (λ l. Follows (held o tail) (fed ++ l) (given ++ singles (p ∷ take end run))) parts
-    (follows-plain h o tail fed given p (take end run) last plain (AllPlain-take end run all) (subst (λ c. is_plain c ≡ true) (sym at) (AllPlain-at run end d all within)) lone e same)
-  where
-    get_or-default : (xs : List ℕ) (i d e : ℕ) → i < length xs → get_or xs i d ≡ get_or xs i e
-    get_or-default [] i d e h = absurd (omega arith)
-    get_or-default (x ∷ xs) zero d e h = refl
-    get_or-default (x ∷ xs) (suc i) d e h = get_or-default xs i d e (omega arith)
+      goes : (u : List ℕ) → graphemes_of ((fed ++ lines) ++ u) ≡ (given ++ singles (h.tail ++ lines)) ++ graphemes_of u
+      goes u =
+          ap graphemes_of (append_assoc fed lines u) ∙ goes-apart (lines ++ u)
+          ∙ ap (λ l. given ++ graphemes_of l) (sym (append_assoc h.tail lines u) ∙ ap (λ l. l ++ u) (sym (append_assoc h.tail front (0xA ∷ []))))
+          ∙ ap (λ l. given ++ l) (whole_lines_are_singles (h.tail ++ front) u (lines-append h.tail front (lines-plain h.tail apart.plain) all))
+          ∙ ap (λ l. given ++ (singles l ++ graphemes_of u)) (append_assoc h.tail front (0xA ∷ []))
+          ∙ sym (append_assoc given (singles (h.tail ++ lines)) (graphemes_of u))
 
-pub lone-from : (h : Held) (fed : List ℕ) (given : List (List ℕ)) (p : ℕ) (f : Follows h fed given) → is_some f.tracks.cluster ≡ false → h.tail ≡ p ∷ [] → IsLone h fed given p
-lone-from h fed given p f none one = record { follows = f; none = none-is_nil f.tracks.cluster none; tail = one }
+      whole : graphemes_of (fed ++ lines) ≡ given ++ singles (h.tail ++ lines)
+      whole =
+          ap graphemes_of (sym (append-nil (fed ++ lines))) ∙ goes []
+          ∙ ap (λ l. (given ++ singles (h.tail ++ lines)) ++ l) graphemes-nil ∙ append-nil (given ++ singles (h.tail ++ lines))
+
+  last_of : (lines : List ℕ) (end last d : ℕ) → end + 1 ≡ length lines → last ≡ get_or lines end d → take end lines ++ last ∷ [] ≡ lines
+  last_of lines end last d size at =
+      let within : end < length lines = omega (arith, size) in
+      ap (λ l. take end lines ++ l ∷ []) (at ∙ get_or-default lines end d 0 within) ∙ sym (take_more lines end 0 within) ∙ take_all (end + 1) lines (omega (arith, size))
+    where
+      get_or-default : (xs : List ℕ) (i d e : ℕ) → i < length xs → get_or xs i d ≡ get_or xs i e
+      get_or-default [] i d e h = absurd (omega arith)
+      get_or-default (x ∷ xs) zero d e h = refl
+      get_or-default (x ∷ xs) (suc i) d e h = get_or-default xs i d e (omega arith)
+
+  pub follows-lines : (tail lines : List ℕ) (end last d : ℕ) → ArePlainLines lines → end + 1 ≡ length lines → last ≡ get_or lines end d → (last ≡ 0xA → ⊥) → tail ≡ last ∷ []
+      → Follows (held o tail) (fed ++ lines) (given ++ singles (h.tail ++ take end lines))
+  follows-lines tail lines end last d all size at other e =
+      let within : end < length lines = omega (arith, size) in
+      let plain : is_plain last ≡ true =
+      elim (of_lines last (ap is_of_plain_lines at ∙ lines-at lines end d all within)) [
+        | inl plain ↦ plain
+        | inr line ↦ absurd (other line)
+      ]
+      in
+      subst (λ l. Follows (held o tail) (fed ++ l) (given ++ singles (h.tail ++ take end lines))) (last_of lines end last d size at)
+      (follows-plain tail (take end lines) last (lines-take end lines all) plain e)
+
+  pub follows-whole_lines : (tail lines : List ℕ) (end last d : ℕ) → ArePlainLines lines → end + 1 ≡ length lines → last ≡ get_or lines end d → last ≡ 0xA → tail ≡ []
+      → Follows (held o tail) (fed ++ lines) (given ++ singles (h.tail ++ lines))
+  follows-whole_lines tail lines end last d all size at line e =
+      subst (λ l. Follows (held o tail) (fed ++ l) (given ++ singles (h.tail ++ l)))
+      (ap (λ c. take end lines ++ c ∷ []) (sym line) ∙ last_of lines end last d size at)
+      (follows-line_feed tail (take end lines) (lines-take end lines all) e)
+
+pub apart-from : (h : Held) (fed : List ℕ) (given : List (List ℕ)) (f : Follows h fed given) → is_some f.tracks.cluster ≡ false → AllPlain h.tail → IsApart h fed given
+apart-from h fed given f none plain = record { follows = f; none = none-is_nil f.tracks.cluster none; plain = plain }
+
+-- a list of none
+pub no_item : (t : List ℕ) → length t ≡ 0 → t ≡ []
+no_item [] e = refl
+no_item (x ∷ t) e = absurd (omega (arith, e))
 
 -- a list of one
 pub one_item : (t : List ℕ) (x d : ℕ) → length t ≡ 1 → x ≡ get_or t 0 d → t ≡ x ∷ []
 one_item [] x d e at = absurd (omega (arith, e))
 one_item (y ∷ []) x d e at = ap (λ z. z ∷ []) (sym at)
 one_item (y ∷ (z ∷ t)) x d e at = absurd (omega (arith, e))
-
--- a block of plain code points more
-pub AllPlain-block : (t block : List ℕ) (at n : ℕ) → AllPlain (take at t) → AllPlain block → block ≡ take n (drop at t) → AllPlain (take (at + n) t)
-AllPlain-block t block at n all more e =
-    ap (list_all is_plain) (sym (take-part t at n)) ∙ append (take at t) (take n (drop at t)) all (subst AllPlain e more)
-  where
-    append : (xs ys : List ℕ) → AllPlain xs → AllPlain ys → AllPlain (xs ++ ys)
-    append [] ys one two = two
-    append (x ∷ xs) ys one two = let parts = and_parts (is_plain x) (list_all is_plain xs) one in and_from _ _ parts.0 (append xs ys parts.1 two)

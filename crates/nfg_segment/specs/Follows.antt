@@ -1,7 +1,8 @@
 -- What a segmenter has given out of a text, and what it knows of the rest (this project's own).
-use Rattle.std.specs.Prelude.{◌≡◌, ℕ, ◌≤◌, List, [], ◌∷◌, ◌++◌, length, take}
+use Rattle.std.specs.Prelude.{◌≡◌, ℕ, ◌≤◌, List, [], ◌++◌, length, take}
 use Rattle.nfg_text.specs.Forms.{nfc}
 use Rattle.nfg_text.specs.Graphemes.{clusters, graphemes_of, stable_len, IsStableBetween}
+use Rattle.nfg_text.specs.Plain.{AllPlain}
 use Rattle.nfg_segment.specs.Given.{Given, with_clusters}
 use Rattle.nfg_segment.specs.Held.{Held, Keeps, as_list}
 
@@ -42,8 +43,8 @@ pub record HasFinished (new : Held) (old_out new_out : Given) (fed : List ℕ) (
   pub whole : given ++ more ≡ graphemes_of fed
   pub as_new : Follows new [] []
 
--- all that is held is one plain code point
-pub record IsLone (held : Held) (fed : List ℕ) (given : List (List ℕ)) (plain : ℕ) : Type 0 where
+-- all that is held are plain code points that are not composed yet
+pub record IsApart (held : Held) (fed : List ℕ) (given : List (List ℕ)) : Type 0 where
   pub follows : Follows held fed given
   pub none : follows.tracks.cluster ≡ []
-  pub tail : held.tail ≡ plain ∷ []
+  pub plain : AllPlain held.tail

@@ -3,4 +3,5 @@ pub mod Follows
 pub mod Given
 pub mod Held
 pub mod Kept
+pub mod PlainLines
 pub mod Reach

@@ -3,16 +3,17 @@ ghost use Rattle.std.specs.Prelude.{◌≡◌, ◌<◌, ◌≤◌, ℕ, true, fa
 ghost use Rattle.std.specs.List.{slice_index_or};
 ghost use Rattle.nfg_text.specs.Forms.{nfc};
 ghost use Rattle.nfg_text.specs.Graphemes.{graphemes_of, starts_safely};
-ghost use Rattle.nfg_text.specs.Plain.{is_plain, AllPlain};
+ghost use Rattle.nfg_text.specs.Plain.{singles};
 ghost use Rattle.nfg_text.specs.Text.{IsText};
-ghost use Rattle.nfg_segment.specs.Follows.{Tracks, Follows, IsLone};
+ghost use Rattle.nfg_segment.specs.Follows.{Tracks, Follows, IsApart};
 ghost use Rattle.nfg_segment.specs.Given.{Grew, with_clusters};
 ghost use Rattle.nfg_segment.specs.Held.{Keeps, next_all, closed_all, as_list, none_safe};
+ghost use Rattle.nfg_segment.specs.PlainLines.{ArePlainLines};
 
 use crate::ClusterSink;
 use crate::draft::{Draft, to_char};
 use crate::open_cluster::OpenCluster;
-use crate::plain::plain_len;
+use crate::plain::plain_lines_len;
 use crate::safe_run::push_safe;
 use nfg_text::{Kind, append_nfc, compose_pair, is_plain, starts_safely};
 use std::alloc::{AllocError, Global};
@@ -210,47 +211,61 @@ impl Held {
         Ok(n)
     }
 
-    /// The plain code point that is all that is held, where it is so.
+    /// Whether nothing is held, or one plain code point.
     #[inline]
-    fn lone(&self) -> Option<char>
-        ensures { IfSome result (λ plain. (is_plain plain ≡ true)
-            × ((fed : List ℕ) (given : List (List ℕ)) → Follows self.now.now fed given → IsLone self.now.now fed given plain)) }
+    fn is_apart(&self) -> bool
+        ensures few { IsTrue result → length self.now.now.tail ≤ 1 }
+        ensures apart { IsTrue result → (fed : List ℕ) (given : List (List ℕ)) → Follows self.now.now fed given
+            → IsApart self.now.now fed given }
     {
         if self.cluster.is_some() {
-            return None;
+            return false;
         }
         let tail = self.tail.as_slice();
         if tail.len() != 1 {
-            return None;
+            return tail.is_empty();
         }
-        let first = tail[0];
-        if !is_plain(first as u32) {
-            return None;
-        }
-        Some(first)
+        is_plain(tail[0] as u32)
     }
 
-    /// Goes on with plain code points after one that is all that is held.
-    fn take_plain<S: ClusterSink>(
-        &mut self,
-        first: char,
-        run: &[u32],
-        out: &mut S,
-    ) -> Result<(), AllocError>
-        requires text { IsText run.now }
-        requires plain { AllPlain run.now }
-        requires some { 0 < length run.now }
-        ensures follows { (fed : List ℕ) (given : List (List ℕ)) → is_plain first ≡ true → IsLone self.old.now fed given first
-            → OnOk result ((more : List (List ℕ)) × (Follows self.new.now (fed ++ run.now) (given ++ more))
+    /// Gives out the tail of one code point at most as a cluster.
+    #[inline]
+    fn give_tail<S: ClusterSink>(&mut self, out: &mut S) -> Result<(), AllocError>
+        requires { length self.old.now.tail ≤ 1 }
+        ensures given { OnOk result (S.given out.new ≡ with_clusters (S.given out.old) (singles self.old.now.tail)) }
+        ensures cluster { OnOk result (self.new.now.cluster ≡ self.old.now.cluster) }
+        ensures tail { OnOk result (self.new.now.tail ≡ []) }
+        ensures marked { self.new.marked ≡ self.old.marked }
+        ensures grew { Grew (S.given out.old) (S.given out.new) }
+    {
+        let tail = self.tail.as_slice();
+        if tail.len() == 1 {
+            out.push_run(&[tail[0] as u32])?;
+            self.tail.clear();
+        }
+        Ok(())
+    }
+
+    /// Goes on with plain lines where a plain code point is all that is held, if anything is.
+    fn take_lines<S: ClusterSink>(&mut self, lines: &[u32], out: &mut S) -> Result<(), AllocError>
+        requires few { length self.old.now.tail ≤ 1 }
+        requires text { IsText lines.now }
+        requires plain { ArePlainLines lines.now }
+        requires some { 0 < length lines.now }
+        ensures follows { (fed : List ℕ) (given : List (List ℕ)) → IsApart self.old.now fed given
+            → OnOk result ((more : List (List ℕ)) × (Follows self.new.now (fed ++ lines.now) (given ++ more))
             × (S.given out.new ≡ with_clusters (S.given out.old) more)) }
         ensures marked { self.new.marked ≡ self.old.marked }
         ensures grew { Grew (S.given out.old) (S.given out.new) }
     {
-        let last = run.len() - 1;
-        out.push_run(&[first as u32])?;
-        out.push_run(&run[..last])?;
-        self.tail.clear();
-        self.tail.push(to_char(run[last]))?;
+        self.give_tail(out)?;
+        let last = lines.len() - 1;
+        if lines[last] == 0xA {
+            out.push_run(lines)?;
+            return Ok(());
+        }
+        out.push_run(&lines[..last])?;
+        self.tail.push(to_char(lines[last]))?;
         Ok(())
     }
 
@@ -265,10 +280,10 @@ impl Held {
         ensures marked { self.new.marked ≡ self.old.marked }
         ensures grew { Grew (S.given out.old) (S.given out.new) }
     {
-        if let Some(first) = self.lone() {
-            let n = plain_len(text);
+        if self.is_apart() {
+            let n = plain_lines_len(text);
             if n > 0 {
-                self.take_plain(first, &text[..n], out)?;
+                self.take_lines(&text[..n], out)?;
                 return Ok(n);
             }
         }

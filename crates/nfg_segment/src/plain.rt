@@ -1,6 +1,6 @@
-//! Plain code points, between which a text is settled.
-ghost use Rattle.std.specs.Prelude.{◌<◌, ◌≤◌, IsTrue, take, length};
-ghost use Rattle.nfg_text.specs.Plain.{AllPlain};
+//! Plain code points and line feeds, between which a text is settled.
+ghost use Rattle.std.specs.Prelude.{◌≡◌, ◌≤◌, ◌+◌, true, IsTrue, take, length};
+ghost use Rattle.nfg_segment.specs.PlainLines.{is_of_plain_lines, ArePlainLines};
 
 use nfg_text::is_plain;
 
@@ -10,58 +10,96 @@ const BLOCK: usize = 16;
 /// How many are looked at one by one before.
 const FEW: usize = 4;
 
-/// How many plain code points the text begins with. Few are soon found; many are counted by blocks.
+/// How many code points of plain lines the text begins with. Few are soon found; many are counted
+/// by blocks.
 #[inline]
-pub(crate) fn plain_len(text: &[u32]) -> usize
+pub(crate) fn plain_lines_len(text: &[u32]) -> usize
     ensures within { result ≤ length text.now }
-    ensures plain { AllPlain (take result text.now) }
+    ensures plain { ArePlainLines (take result text.now) }
 {
-    let some = plain_up_to(text, 0, text.len().min(FEW));
+    let some = lines_up_to(text, 0, text.len().min(FEW));
     if some < FEW {
         return some;
     }
-    plain_up_to(text, plain_blocks(text, some), text.len())
+    many_lines(text, some)
 }
 
-/// How many plain code points the text begins with, of which `from` are known, as far as `end`.
-#[inline]
-fn plain_up_to(text: &[u32], from: usize, end: usize) -> usize
+/// How many code points of plain lines the text begins with, of which `from` are known.
+fn many_lines(text: &[u32], from: usize) -> usize
     requires from { from ≤ length text.now }
-    requires end { end ≤ length text.now }
-    requires known { AllPlain (take from text.now) }
+    requires known { ArePlainLines (take from text.now) }
     ensures within { result ≤ length text.now }
-    ensures plain { AllPlain (take result text.now) }
+    ensures plain { ArePlainLines (take result text.now) }
 {
     let mut at = from;
-    while at < end && is_plain(text[at]) {
+    while text.len() - at >= BLOCK {
+        let next = lines_in_block(text, at);
+        if next < at + BLOCK {
+            return next;
+        }
+        at = next;
+    }
+    lines_up_to(text, at, text.len())
+}
+
+/// How many code points of plain lines the text begins with, of which `from` are known, as far as
+/// the end of the block there.
+#[inline(always)]
+fn lines_in_block(text: &[u32], from: usize) -> usize
+    requires known { ArePlainLines (take from text.now) }
+    requires block { from + 16 ≤ length text.now }
+    ensures from { from ≤ result }
+    ensures within { result ≤ from + 16 }
+    ensures plain { ArePlainLines (take result text.now) }
+{
+    let end = from + BLOCK;
+    if are_ascii_lines(&text[from..end]) {
+        return end;
+    }
+    lines_up_to(text, from, end)
+}
+
+/// How many code points of plain lines the text begins with, of which `from` are known, as far as
+/// `end`.
+#[inline(always)]
+fn lines_up_to(text: &[u32], from: usize, end: usize) -> usize
+    requires from { from ≤ end }
+    requires end { end ≤ length text.now }
+    requires known { ArePlainLines (take from text.now) }
+    ensures from { from ≤ result }
+    ensures within { result ≤ end }
+    ensures plain { ArePlainLines (take result text.now) }
+{
+    let mut at = from;
+    while at < end && is_of_plain_lines(text[at]) {
         at += 1;
     }
     at
 }
 
-/// How many plain code points the text begins with, of which `from` are known, in whole blocks from
-/// there on.
-fn plain_blocks(text: &[u32], from: usize) -> usize
-    requires from { from ≤ length text.now }
-    requires known { AllPlain (take from text.now) }
-    ensures within { result ≤ length text.now }
-    ensures plain { AllPlain (take result text.now) }
+#[inline(always)]
+fn is_of_plain_lines(c: u32) -> bool
+    ensures { result ≡ is_of_plain_lines c }
 {
-    let mut at = from;
-    while text.len() - at >= BLOCK && are_plain(&text[at..at + BLOCK]) {
-        at += BLOCK;
-    }
-    at
+    is_plain(c) || c == 0xA
 }
 
-/// Whether every code point is plain. There is no branch in the loop, so that it becomes vectors.
+/// Whether every code point is printable ASCII or a line feed. There is no branch in the loop, so
+/// that it becomes vectors.
 #[inline(always)]
-fn are_plain(block: &[u32]) -> bool
-    ensures { IsTrue result → AllPlain block.now }
+fn are_ascii_lines(block: &[u32]) -> bool
+    ensures { IsTrue result → ArePlainLines block.now }
 {
     let mut all = true;
     for c in block {
-        all &= is_plain(*c);
+        all &= is_of_ascii_lines(*c);
     }
     all
+}
+
+#[inline(always)]
+fn is_of_ascii_lines(c: u32) -> bool
+    ensures { IsTrue result → is_of_plain_lines c ≡ true }
+{
+    (0x20 <= c) & (c <= 0x7E) | (c == 0xA)
 }

@@ -22,9 +22,9 @@ fn a_cluster_that_may_go_on_is_held_back(rt: HostRuntime) -> Result<(), Fail> {
     Ok(())
 }
 
-/// Marks that reorder or compose across pieces, jamo, flags, conjuncts, emoji joiners, CR LF, prepended marks, and code points
-/// that compose to what breaks otherwise.
-const HARD: [&[u32]; 32] = [
+/// Marks that reorder or compose across pieces, jamo, flags, conjuncts, emoji joiners, CR LF, prepended marks, code points
+/// that compose to what breaks otherwise, and lines that begin or end with any of these.
+const HARD: [&[u32]; 37] = [
     &[],
     &[0x65, 0x301, 0x71],
     &[0x71, 0x307, 0x323, 0x71],
@@ -57,6 +57,11 @@ const HARD: [&[u32]; 32] = [
     &[0x61, 0xAD, 0x62, 0x85, 0x63, 0x2028],
     &[0x4E00, 0x4E01, 0x3042, 0x3099, 0x3046, 0x3099],
     &[0x20, 0x7E, 0xC0, 0x300, 0x2FF, 0x3A3, 0x342, 0xAC00],
+    &[0xA, 0x61, 0xA, 0xA, 0x62, 0x301, 0xA, 0x63],
+    &[0x61, 0xD, 0xA, 0x62, 0xA, 0xD, 0xA, 0x63],
+    &[0x61, 0x62, 0xA, 0x301, 0x61, 0xA, 0x200D, 0xA],
+    &[0xAC00, 0xA, 0x11A8, 0xA, 0xAC00, 0x11A8, 0x4E00, 0xA],
+    &[0x915, 0x61, 0xA, 0x62, 0x94D, 0x915, 0xA, 0x61],
 ];
 
 #[test]
@@ -67,6 +72,29 @@ fn every_split_gives_the_graphemes_of_the_whole(rt: HostRuntime) -> Result<(), F
         }
     }
     Ok(())
+}
+
+#[test]
+fn plain_lines_of_every_length_are_cut_alike(rt: HostRuntime) -> Result<(), Fail> {
+    let alloc = rt.alloc();
+    let mut text = CodeList::new(alloc);
+    for k in 0..70 {
+        text.append(&[point_of_lines(k)])?;
+        check_split(&rt, alloc, text.as_slice(), 0)?;
+        text.append(&[0x301])?;
+        check_split(&rt, alloc, text.as_slice(), 0x55)?;
+        text.truncate(text.len() - 1);
+    }
+    Ok(())
+}
+
+/// Letters, an ideograph among them, with a line feed after each 22.
+fn point_of_lines(k: u32) -> u32 {
+    match k % 23 {
+        22 => 0xA,
+        11 => 0x4E00,
+        letter => 0x61 + letter,
+    }
 }
 
 /// The text with a cut after its code point k where bit k of `cuts` is set.

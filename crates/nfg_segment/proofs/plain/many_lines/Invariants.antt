@@ -1,11 +1,11 @@
 use Rattle.std.proofs.Common.{◌≤◌, ◌-◌, take, length}
-use Rattle.nfg_text.specs.Plain.{AllPlain}
-use Rattle.nfg_segment.proofs.plain.plain_up_to.Given as goal
+use Rattle.nfg_segment.specs.PlainLines.{ArePlainLines}
+use Rattle.nfg_segment.proofs.plain.many_lines.Given as goal
 
 abbrev pub invariant-loop-at : goal.invariant-loop-at
 invariant-loop-at l = record {
   within : l.at ≤ length l.text;
-  plain : AllPlain (take l.at l.text);
+  plain : ArePlainLines (take l.at l.text);
 }
 
 abbrev pub decreases-loop-at : goal.decreases-loop-at

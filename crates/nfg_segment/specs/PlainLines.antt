@@ -1,0 +1,12 @@
+-- Plain lines: plain code points, and the line feeds between them (this project's own).
+use Rattle.std.specs.Prelude.{◌≡◌, ℕ, Bool, true, ◌||◌, ◌==◌, List}
+use Rattle.std.specs.List.{list_all}
+use Rattle.nfg_text.specs.Plain.{is_plain}
+
+-- the code point is plain, or a line feed
+abbrev pub is_of_plain_lines : ℕ → Bool
+is_of_plain_lines c = is_plain c || (c == 0xA)
+
+-- every code point of the text is plain, or a line feed
+abbrev pub ArePlainLines : List ℕ → Type 0
+ArePlainLines t = list_all is_of_plain_lines t ≡ true
