@@ -63,3 +63,7 @@ StepsOn s piece (Whole code) = (length piece ≡ 1) × ((e : Encoding) (bytes ol
 StepsOn s piece (Held tail) = (length piece ≡ 1) × (length (bytes_of tail) ≡ length (bytes_of s.tail) + 1)
     × ((e : Encoding) (bytes old : List ℕ) → IsOpen s e bytes → HasAdvanced e bytes piece old old (open_next s s.settled tail))
 StepsOn s piece Other = ⊤
+
+-- no bytes are held, and the piece is one byte and a whole sequence
+abbrev pub IsWhole : State → List ℕ → ℕ → Type 0
+IsWhole s piece code = (s.tail ≡ Empty) × StepsOn s piece (Whole code)

@@ -6,6 +6,7 @@ use Rattle.nfg_decode.specs.declared.encoding.DecodeError.TheVariants.{Malformed
 use Rattle.nfg_decode.specs.declared.stream.ByteStream.{ByteStream}
 use Rattle.nfg_decode.specs.declared.step.Step.{Step}
 use Rattle.nfg_decode.specs.declared.step.Step.TheVariants.{Whole, Held, Other}
+use Rattle.nfg_decode.specs.declared.tail.Tail.TheVariants.{Empty}
 use Rattle.nfg_decode.specs.Encoding.{IsAlreadyMalformed}
 use Rattle.nfg_decode.specs.State.{IsOpen, GivesNext, StepsOn}
 use Rattle.nfg_decode.specs.Answer.{UnlessOutOfMemory}
@@ -31,3 +32,7 @@ abbrev pub StepsFrom : ByteStream → List ℕ → Step → Type 0
 StepsFrom s piece (Whole code) = (s.malformed ≡ None) × StepsOn s.state piece (Whole code)
 StepsFrom s piece (Held tail) = (s.malformed ≡ None) × StepsOn s.state piece (Held tail)
 StepsFrom s piece Other = ⊤
+
+-- nothing was malformed yet, no bytes are held, and the piece is one byte and a whole sequence
+abbrev pub IsLone : ByteStream → List ℕ → ℕ → Type 0
+IsLone s piece code = (s.malformed ≡ None) × (s.state.tail ≡ Empty) × StepsOn s.state piece (Whole code)

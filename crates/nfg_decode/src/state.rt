@@ -1,15 +1,15 @@
 //! What a stream knows of the bytes that it has read.
 
-ghost use Rattle.std.specs.Prelude.{◌≡◌, ℕ, ◌+◌, ◌^◌, ◌≤◌, List, [], length, IfOk, OnErr};
+ghost use Rattle.std.specs.Prelude.{◌≡◌, ℕ, ◌+◌, ◌^◌, ◌≤◌, List, [], length, IfOk, IfSome, OnErr};
 ghost use Rattle.nfg_decode.specs.declared.encoding.Encoding.{Encoding};
 ghost use Rattle.nfg_decode.specs.Reads.{Grew};
-ghost use Rattle.nfg_decode.specs.State.{IsOpen, IsReady, HasAdvanced, StepsOn};
+ghost use Rattle.nfg_decode.specs.State.{IsOpen, IsReady, HasAdvanced, StepsOn, IsWhole};
 ghost use Rattle.nfg_decode.specs.Tail.{bytes_of};
 
 use crate::encoding::Encoding;
 use crate::mark::{Opening, look_for_mark};
 use crate::reading::{Form, read_on};
-use crate::step::{Step, next_step};
+use crate::step::{Step, code_of_byte, next_step};
 use crate::tail::Tail;
 use crate::utf16::ByteOrder;
 use nfg_text::CodeList;
@@ -68,9 +68,27 @@ fn opening_of(state: State, piece: &[u8]) -> Opening
     }
 }
 
+/// The code point of a piece that is one byte and a whole sequence, where no bytes are held.
+#[inline(always)]
+pub(crate) fn lone_code(state: &State, piece: &[u8]) -> Option<u32>
+    ensures { IfSome result (IsWhole state.now piece.now) }
+{
+    let Tail::Empty = state.tail else {
+        return None;
+    };
+    let Some(form) = state.form else {
+        return None;
+    };
+    let [byte] = piece else {
+        return None;
+    };
+    code_of_byte(form, *byte)
+}
+
 /// What a piece of one byte makes of the held bytes. It is not said of longer pieces, or before the mark.
-pub(crate) fn step_of(state: State, piece: &[u8]) -> Step
-    ensures { StepsOn state piece.now result }
+#[inline(always)]
+pub(crate) fn step_of(state: &State, piece: &[u8]) -> Step
+    ensures { StepsOn state.now piece.now result }
 {
     let Some(form) = state.form else {
         return Step::Other;

@@ -1,14 +1,15 @@
 //! What one byte makes of the unfinished sequence before it.
 
-ghost use Rattle.std.specs.Prelude.{[], ◌∷◌, ◌++◌};
+ghost use Rattle.std.specs.Prelude.{◌≡◌, [], ◌∷◌, ◌++◌, Ok, IfSome};
 ghost use Rattle.nfg_decode.specs.declared.encoding.Encoding.TheVariants.{Latin1};
+ghost use Rattle.nfg_decode.specs.Encoding.{decode};
 ghost use Rattle.nfg_decode.specs.Reading.{as_encoding};
 ghost use Rattle.nfg_decode.specs.Step.{StepsTo};
 ghost use Rattle.nfg_decode.specs.Tail.{bytes_of};
 
 use crate::reading::Form;
 use crate::tail::Tail;
-use crate::utf8::step_utf8;
+use crate::utf8::{ascii_code, step_utf8};
 use crate::utf16::step_utf16;
 
 /// What the held bytes and one more are. It is not said of bytes that are malformed, or that no
@@ -23,6 +24,19 @@ pub(crate) enum Step {
     Other,
 }
 
+/// The code point of a byte that is a whole sequence.
+#[inline(always)]
+pub(crate) fn code_of_byte(form: Form, byte: u8) -> Option<u32>
+    ensures { IfSome result (λ code. decode (as_encoding form) (byte ∷ []) ≡ Ok (code ∷ [])) }
+{
+    match form {
+        Form::Utf8 => ascii_code(byte),
+        Form::Utf16(_) => None,
+        Form::Latin1 => Some(u32::from(byte)),
+    }
+}
+
+#[inline(always)]
 fn step_latin1(tail: Tail, byte: u8) -> Step
     ensures { StepsTo Latin1 (bytes_of tail ++ byte ∷ []) result }
 {
@@ -33,6 +47,7 @@ fn step_latin1(tail: Tail, byte: u8) -> Step
 }
 
 /// Takes one byte more.
+#[inline(always)]
 pub(crate) fn next_step(form: Form, tail: Tail, byte: u8) -> Step
     ensures { StepsTo (as_encoding form) (bytes_of tail ++ byte ∷ []) result }
 {

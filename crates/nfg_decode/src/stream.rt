@@ -1,6 +1,6 @@
 //! A stream of bytes that comes in pieces.
 
-ghost use Rattle.std.specs.Prelude.{◌≡◌, ℕ, ◌+◌, ◌^◌, ◌≤◌, List, [], ◌++◌, length, Ok, Err, OnOk, IsErrOf};
+ghost use Rattle.std.specs.Prelude.{◌≡◌, ℕ, ◌+◌, ◌^◌, ◌≤◌, List, [], ◌++◌, length, Ok, Err, OnOk, IfSome, IsErrOf};
 ghost use Rattle.nfg_decode.specs.declared.encoding.Encoding.{Encoding};
 ghost use Rattle.nfg_decode.specs.Encoding.{decode, decoded_prefix, IsAlreadyMalformed};
 ghost use Rattle.nfg_decode.specs.State.{GivesNext};
@@ -8,7 +8,7 @@ ghost use Rattle.nfg_decode.specs.Tail.{bytes_of};
 ghost use Rattle.nfg_decode.specs.Answer.{UnlessOutOfMemory, answer_of};
 
 use crate::encoding::{DecodeError, Encoding};
-use crate::state::{State, advance, first_state, step_of};
+use crate::state::{State, advance, first_state, lone_code, step_of};
 use crate::step::Step;
 use crate::tail::{Tail, tail_len};
 use nfg_text::CodeList;
@@ -25,7 +25,7 @@ pub struct ByteStream {
 }
 
 impl ByteStream {
-    ghost use Rattle.nfg_decode.specs.Stream.{HasRead, Feeds, StepsFrom, fed_count};
+    ghost use Rattle.nfg_decode.specs.Stream.{HasRead, Feeds, StepsFrom, IsLone, fed_count};
 
     /// A stream in this encoding, to which nothing was fed yet. It takes no memory.
     #[tactic(auto, unfolding(crate::specs::Stream::fed_count))]
@@ -80,18 +80,20 @@ impl ByteStream {
         self.take_piece(piece, into)
     }
 
-    /// What a piece of one byte makes of the held bytes, where nothing was malformed before.
+    /// The code point of a piece that is one byte and a whole sequence, where no bytes are held and
+    /// nothing was malformed before.
     #[inline(always)]
-    fn step(&self, piece: &[u8]) -> Step
-        ensures { StepsFrom self.now piece.now result }
+    fn lone(&self, piece: &[u8]) -> Option<u32>
+        ensures { IfSome result (IsLone self.now piece.now) }
     {
         match self.malformed {
-            Some(_) => Step::Other,
-            None => step_of(self.state, piece),
+            Some(_) => None,
+            None => lone_code(&self.state, piece),
         }
     }
 
-    /// Takes a piece. A single byte that ends a sequence or is held takes a short way.
+    /// Takes a piece. A single byte that is a whole sequence takes the shortest way, which the caller
+    /// has in place.
     #[inline(always)]
     #[tactic(auto, unfolding(crate::specs::Stream::fed_count))]
     fn take_piece(&mut self, piece: &[u8], into: &mut CodeList) -> Result<(), DecodeError>
@@ -103,9 +105,43 @@ impl ByteStream {
         ensures count { UnlessOutOfMemory result
             (fed_count self.new ≡ fed_count self.old + length piece.now) }
     {
+        let Some(code) = self.lone(piece) else {
+            return self.take_step(piece, into);
+        };
+        let Ok(()) = into.push(code) else {
+            return Err(DecodeError::OutOfMemory);
+        };
+        self.fed += 1;
+        self.state.settled += 1;
+        Ok(())
+    }
+
+    /// What a piece of one byte makes of the held bytes, where nothing was malformed before.
+    #[inline(always)]
+    fn step(&self, piece: &[u8]) -> Step
+        ensures { StepsFrom self.now piece.now result }
+    {
+        match self.malformed {
+            Some(_) => Step::Other,
+            None => step_of(&self.state, piece),
+        }
+    }
+
+    /// Takes a piece. A single byte that ends a sequence or is held takes a short way.
+    #[inline(never)]
+    #[tactic(auto, unfolding(crate::specs::Stream::fed_count))]
+    fn take_step(&mut self, piece: &[u8], into: &mut CodeList) -> Result<(), DecodeError>
+        requires { fed_count self.old + length piece.now ≤ 2 ^ 32 }
+        ensures feeds { (e : Encoding) (bytes : List ℕ) → HasRead self.old e bytes
+            → Feeds e bytes piece.now into.old into.new self.new result }
+        ensures out_of_memory { IsErrOf result DecodeError.OutOfMemory
+            → (self.new ≡ self.old) × (into.new ≡ into.old) }
+        ensures count { UnlessOutOfMemory result
+            (fed_count self.new ≡ fed_count self.old + length piece.now) }
+    {
         match self.step(piece) {
             Step::Whole(code) => {
-                let Ok(()) = into.append(&[code]) else {
+                let Ok(()) = into.push(code) else {
                     return Err(DecodeError::OutOfMemory);
                 };
                 let settled = self.state.settled + tail_len(self.state.tail) as u64 + 1;
@@ -123,6 +159,7 @@ impl ByteStream {
         }
     }
 
+    #[inline(never)]
     #[tactic(auto, unfolding(crate::specs::Stream::fed_count))]
     fn take_any(&mut self, piece: &[u8], into: &mut CodeList) -> Result<(), DecodeError>
         requires { fed_count self.old + length piece.now ≤ 2 ^ 32 }

@@ -196,6 +196,7 @@ pub(crate) fn read_utf16(
     Ok(Reach { at, is_malformed })
 }
 
+#[inline(always)]
 fn step_one(order: ByteOrder, x: u8) -> Step
     ensures { StepsTo (utf16_form order) (x ∷ []) result }
 {
@@ -205,6 +206,7 @@ fn step_one(order: ByteOrder, x: u8) -> Step
     Step::Held(Tail::One(x))
 }
 
+#[inline(always)]
 fn step_two(order: ByteOrder, x: u8, y: u8) -> Step
     ensures { StepsTo (utf16_form order) (x ∷ y ∷ []) result }
 {
@@ -218,6 +220,7 @@ fn step_two(order: ByteOrder, x: u8, y: u8) -> Step
     Step::Held(Tail::Two(x, y))
 }
 
+#[inline(always)]
 fn step_three(order: ByteOrder, x: u8, y: u8, z: u8) -> Step
     ensures { StepsTo (utf16_form order) (x ∷ y ∷ z ∷ []) result }
 {
@@ -234,6 +237,7 @@ fn step_three(order: ByteOrder, x: u8, y: u8, z: u8) -> Step
     Step::Held(Tail::Three(x, y, z))
 }
 
+#[inline(always)]
 fn step_four(order: ByteOrder, x: u8, y: u8, z: u8, w: u8) -> Step
     ensures { StepsTo (utf16_form order) (x ∷ y ∷ z ∷ w ∷ []) result }
 {
@@ -246,6 +250,7 @@ fn step_four(order: ByteOrder, x: u8, y: u8, z: u8, w: u8) -> Step
 }
 
 /// Takes one byte more.
+#[inline(always)]
 pub(crate) fn step_utf16(order: ByteOrder, tail: Tail, byte: u8) -> Step
     ensures { StepsTo (utf16_form order) (bytes_of tail ++ byte ∷ []) result }
 {

@@ -1,9 +1,10 @@
 //! UTF-8, checked by `simdutf8`.
 
-ghost use Rattle.std.specs.Prelude.{◌≡◌, ◌<◌, ◌≤◌, [], ◌∷◌, ◌++◌, length, take, IfOk, OnOk, OnErr, IsUtf8, chars};
+ghost use Rattle.std.specs.Prelude.{◌≡◌, ◌<◌, ◌≤◌, [], ◌∷◌, ◌++◌, length, take, Ok, IfOk, IfSome, OnOk, OnErr, IsUtf8, chars};
 ghost use Rattle.std.specs.Str.{IsAscii, IsCharBoundary};
 ghost use Rattle.std.specs.Str.Lossy.{second_byte_min, second_byte_max};
 ghost use Rattle.std.specs.Bool.{OnTrue};
+ghost use Rattle.nfg_decode.specs.Encoding.{decode};
 ghost use Rattle.nfg_decode.specs.Reads.{Grew, Reads};
 ghost use Rattle.nfg_decode.specs.Step.{StepsTo};
 ghost use Rattle.nfg_decode.specs.Tail.{bytes_of};
@@ -115,6 +116,7 @@ pub(crate) fn read_utf8(
 }
 
 /// Whether the second byte may follow the first (Table 3-7).
+#[inline(always)]
 fn follows(a: u8, b: u8) -> bool
     ensures leads { OnTrue result ((0xC2 ≤ a) × (a ≤ 0xF4)) }
     ensures least { OnTrue result (second_byte_min a ≤ b) }
@@ -139,6 +141,15 @@ fn continues(b: u8) -> bool
     0x80 <= b && b <= 0xBF
 }
 
+/// The code point of a byte of ASCII.
+#[inline(always)]
+pub(crate) fn ascii_code(a: u8) -> Option<u32>
+    ensures { IfSome result (λ code. decode Utf8 (a ∷ []) ≡ Ok (code ∷ [])) }
+{
+    if a < 0x80 { Some(u32::from(a)) } else { None }
+}
+
+#[inline(always)]
 fn step_one(a: u8) -> Step
     ensures { StepsTo Utf8 (a ∷ []) result }
 {
@@ -154,6 +165,7 @@ fn step_one(a: u8) -> Step
     Step::Held(Tail::One(a))
 }
 
+#[inline(always)]
 fn step_two(a: u8, b: u8) -> Step
     ensures { StepsTo Utf8 (a ∷ b ∷ []) result }
 {
@@ -166,6 +178,7 @@ fn step_two(a: u8, b: u8) -> Step
     Step::Held(Tail::Two(a, b))
 }
 
+#[inline(always)]
 fn step_three(a: u8, b: u8, c: u8) -> Step
     ensures { StepsTo Utf8 (a ∷ b ∷ c ∷ []) result }
 {
@@ -185,6 +198,7 @@ fn step_three(a: u8, b: u8, c: u8) -> Step
     Step::Held(Tail::Three(a, b, c))
 }
 
+#[inline(always)]
 fn step_four(a: u8, b: u8, c: u8, d: u8) -> Step
     ensures { StepsTo Utf8 (a ∷ b ∷ c ∷ d ∷ []) result }
 {
@@ -205,6 +219,7 @@ fn step_four(a: u8, b: u8, c: u8, d: u8) -> Step
 }
 
 /// Takes one byte more.
+#[inline(always)]
 pub(crate) fn step_utf8(tail: Tail, byte: u8) -> Step
     ensures { StepsTo Utf8 (bytes_of tail ++ byte ∷ []) result }
 {
