@@ -47,7 +47,7 @@ fn narrowed(alloc: Global, graphemes: &[i32]) -> Result<Vec<i8>, AllocError>
 }
 
 // The same graphemes. Unused room is given back where it is more than a quarter of theirs.
-fn without_spare(mut graphemes: Vec<i32>) -> Vec<i32>
+fn without_spare<T>(mut graphemes: Vec<T>) -> Vec<T>
     ensures { result.items ≡ graphemes.items }
 {
     if graphemes.capacity() - graphemes.len() > graphemes.len() / 4 {
@@ -103,6 +103,17 @@ impl Block {
             Cells::Wide(without_spare(graphemes))
         };
         Ok(Block { cells })
+    }
+
+    /// The block of these graphemes, each of which fits 8 bits. It keeps the vector: no grapheme is
+    /// copied, and no memory can be wanting.
+    pub fn from_narrow(graphemes: Vec<i8>) -> Block
+        requires { list_all is_narrow_grapheme graphemes.items ≡ true }
+        ensures { result ≡ block_of graphemes.items }
+    {
+        Block {
+            cells: Cells::Narrow(without_spare(graphemes)),
+        }
     }
 
     /// How many graphemes it holds.

@@ -54,6 +54,20 @@ fn a_block_takes_a_vector_over(rt: HostRuntime) -> Result<(), Fail> {
 }
 
 #[test]
+fn a_block_takes_a_narrow_vector_over(rt: HostRuntime) -> Result<(), Fail> {
+    let mut list: Vec<i8> = Vec::with_capacity(rt.alloc(), 64)?;
+    list.extend_from_slice(&[97, -1])?;
+    assert!(rt; list.as_slice() == [97, -1].as_slice());
+    let block = Block::from_narrow(list);
+    assert!(rt; block.is_narrow());
+    assert!(rt; block.len() == 2);
+    let mut copied = [0; 2];
+    block.copy_into(0, &mut copied);
+    assert_eq!(rt; copied, [97, -1]);
+    Ok(())
+}
+
+#[test]
 fn ranges_of_both_widths_compare_and_are_searched(rt: HostRuntime) {
     let narrow = Block::from_graphemes(rt.alloc(), &[7, 7]);
     let wide = Block::from_graphemes(rt.alloc(), &[263, 7, 7]);

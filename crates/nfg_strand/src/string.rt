@@ -1,8 +1,9 @@
 //! Strings of graphemes.
 
-ghost use Rattle.std.specs.Prelude.{◌≡◌, ◌≤◌, ◌<◌, ◌+◌, ◌*◌, ◌^◌, ◌++◌, [], length, IfOk, OnOk, OnErr, slice_index_or, slice_get, slice_range};
-ghost use Rattle.std.specs.List.{position_from, common_prefix_len, repeat};
+ghost use Rattle.std.specs.Prelude.{◌≡◌, ◌≤◌, ◌<◌, ◌+◌, ◌*◌, ◌^◌, ◌++◌, [], true, length, IfOk, OnOk, OnErr, slice_index_or, slice_get, slice_range};
+ghost use Rattle.std.specs.List.{position_from, common_prefix_len, list_all, repeat};
 ghost use Rattle.std.specs.Ordering.{int_eq};
+ghost use Rattle.nfg_block.specs.Lanes.{is_narrow_grapheme};
 ghost use Rattle.nfg_strand.specs.Pieces.{flat_piece, clipped, joined, repeat_pieces, at_most_64};
 
 use crate::graphemes::Graphemes;
@@ -68,6 +69,21 @@ impl NString {
         let len = g.len() as u64;
         Ok(NString {
             strands: join::over(alloc, Block::from_vec(alloc, g)?)?,
+            len,
+        })
+    }
+
+    /// The same of a vector of graphemes that fit 8 bits, which becomes the block: no grapheme is
+    /// copied.
+    pub fn from_narrow(alloc: Global, g: Vec<i8>) -> Result<NString, AllocError>
+        requires narrow { list_all is_narrow_grapheme g.items ≡ true }
+        requires bounded { length g.items ≤ 2 ^ 40 }
+        ensures graphemes { IfOk result (λ s. s.graphemes ≡ g.items) }
+        ensures pieces { IfOk result (λ s. s.pieces ≡ flat_piece g.items) }
+    {
+        let len = g.len() as u64;
+        Ok(NString {
+            strands: join::over(alloc, Block::from_narrow(g))?,
             len,
         })
     }

@@ -124,6 +124,16 @@ fn a_string_takes_a_vector_over(rt: HostRuntime) -> Result<(), Fail> {
 }
 
 #[test]
+fn a_string_takes_a_narrow_vector_over(rt: HostRuntime) -> Result<(), Fail> {
+    let alloc = rt.alloc();
+    let mut list: Vec<i8> = Vec::with_capacity(alloc, 64)?;
+    list.extend_from_slice(&[97, -1, 127])?;
+    assert!(rt; list.as_slice() == [97, -1, 127].as_slice());
+    let s = NString::from_narrow(alloc, list)?;
+    has(&rt, alloc, &s, &[97, -1, 127], &[(3, 1, true)])
+}
+
+#[test]
 fn sixty_five_strands_become_one(rt: HostRuntime) -> Result<(), Fail> {
     let alloc = rt.alloc();
     let mut s = NString::empty(alloc);
