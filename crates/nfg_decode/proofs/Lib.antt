@@ -11,5 +11,6 @@ pub mod StreamLemmas
 pub mod Utf16Laws
 pub mod Utf16Tails
 pub mod Utf8Laws
+pub mod Utf8Sequences
 pub mod Utf8Tails
 pub mod Utf8Text

@@ -33,19 +33,19 @@ spelled c bytes s e =
 high_scalar : (c : ℕ) → 0xE000 ≤ c → c < 0x110000 → scalar c ≡ true
 high_scalar c l h = rw (le-ltb c 0xD800 (omega arith), le-leb 0xE000 c l, lt-ltb c 0x110000 h) refl
 
-spells_one : (c : ℕ) → c < 0x80 → encode c ≡ c ∷ []
+pub spells_one : (c : ℕ) → c < 0x80 → encode c ≡ c ∷ []
 unfolding encode
 spells_one c h = rw (lt-ltb c 128 h) refl
 
-spells_two : (a b c : ℕ) → 0x80 ≤ c → c < 0x800 → 192 + c / 64 ≡ a → 128 + c % 64 ≡ b → encode c ≡ a ∷ b ∷ []
+pub spells_two : (a b c : ℕ) → 0x80 ≤ c → c < 0x800 → 192 + c / 64 ≡ a → 128 + c % 64 ≡ b → encode c ≡ a ∷ b ∷ []
 unfolding encode
 spells_two a b c l h first second = rw (le-ltb c 128 l, lt-ltb c 2048 h) (λ i. first i ∷ second i ∷ [])
 
-spells_three : (a b d c : ℕ) → 0x800 ≤ c → c < 0x10000 → 224 + c / 4096 ≡ a → 128 + c / 64 % 64 ≡ b → 128 + c % 64 ≡ d → encode c ≡ a ∷ b ∷ d ∷ []
+pub spells_three : (a b d c : ℕ) → 0x800 ≤ c → c < 0x10000 → 224 + c / 4096 ≡ a → 128 + c / 64 % 64 ≡ b → 128 + c % 64 ≡ d → encode c ≡ a ∷ b ∷ d ∷ []
 unfolding encode
 spells_three a b d c l h first second third = rw (le-ltb c 128 (omega arith), le-ltb c 2048 l, lt-ltb c 65536 h) (λ i. first i ∷ second i ∷ third i ∷ [])
 
-spells_four : (a b d e c : ℕ) → 0x10000 ≤ c → 240 + c / 262144 ≡ a → 128 + c / 4096 % 64 ≡ b → 128 + c / 64 % 64 ≡ d → 128 + c % 64 ≡ e → encode c ≡ a ∷ b ∷ d ∷ e ∷ []
+pub spells_four : (a b d e c : ℕ) → 0x10000 ≤ c → 240 + c / 262144 ≡ a → 128 + c / 4096 % 64 ≡ b → 128 + c / 64 % 64 ≡ d → 128 + c % 64 ≡ e → encode c ≡ a ∷ b ∷ d ∷ e ∷ []
 unfolding encode
 spells_four a b d e c l first second third fourth =
     rw (le-ltb c 128 (omega arith), le-ltb c 2048 (omega arith), le-ltb c 65536 l) (λ i. first i ∷ second i ∷ third i ∷ fourth i ∷ [])

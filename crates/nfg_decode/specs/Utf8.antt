@@ -1,5 +1,5 @@
 -- UTF-8 (The Unicode Standard, section 3.9, Table 3-7), in the words of std.
-use Rattle.std.specs.Prelude.{ℕ, List, length, ◌==◌, if◌then◌else◌, Ok, Err, chars}
+use Rattle.std.specs.Prelude.{◌≡◌, ℕ, ◌≤◌, List, ◌∷◌, length, drop, ◌==◌, if◌then◌else◌, Ok, Err, IsUtf8, chars}
 use Rattle.std.specs.Str.Lossy.{utf8_valid_len}
 use Rattle.nfg_decode.specs.Decoded.{Decoded}
 
@@ -7,3 +7,9 @@ use Rattle.nfg_decode.specs.Decoded.{Decoded}
 -- the place is the length of that front.
 unfoldable pub decode_utf8 : List ℕ → Decoded
 decode_utf8 b = if utf8_valid_len b == length b then Ok (chars b) else Err (utf8_valid_len b)
+
+-- the text begins with this code point, in so many bytes
+pub record IsFirst (text : List ℕ) (len code : ℕ) : Type 0 where
+  pub within : len ≤ length text
+  pub rest : IsUtf8 (drop len text)
+  pub codes : chars text ≡ code ∷ chars (drop len text)

@@ -1,6 +1,6 @@
 //! UTF-8, checked by `simdutf8`.
 
-ghost use Rattle.std.specs.Prelude.{◌≡◌, ◌<◌, ◌≤◌, [], ◌∷◌, ◌++◌, length, take, Ok, IfOk, IfSome, OnOk, OnErr, IsUtf8, chars};
+ghost use Rattle.std.specs.Prelude.{◌≡◌, ◌+◌, ◌-◌, ◌*◌, ◌<◌, ◌≤◌, ◌⊎◌, [], ◌∷◌, ◌++◌, length, take, Ok, IfOk, IfSome, OnOk, OnErr, MatchBool, IsUtf8, chars};
 ghost use Rattle.std.specs.Str.{IsAscii, IsCharBoundary};
 ghost use Rattle.std.specs.Str.Lossy.{second_byte_min, second_byte_max};
 ghost use Rattle.std.specs.Bool.{OnTrue};
@@ -8,6 +8,7 @@ ghost use Rattle.nfg_decode.specs.Encoding.{decode};
 ghost use Rattle.nfg_decode.specs.Reads.{Grew, Reads};
 ghost use Rattle.nfg_decode.specs.Step.{StepsTo};
 ghost use Rattle.nfg_decode.specs.Tail.{bytes_of};
+ghost use Rattle.nfg_decode.specs.Utf8.{IsFirst};
 ghost use Rattle.nfg_decode.specs.declared.encoding.Encoding.TheVariants.{Utf8};
 
 use crate::part::widen;
@@ -40,19 +41,81 @@ fn fill(text: &str, codes: &mut [u32]) -> usize
         widen(bytes, &mut codes[..bytes.len()]);
         return bytes.len();
     }
-    fill_chars(text, codes)
+    fill_codes(text, codes)
 }
 
-/// The same, character by character.
-fn fill_chars(text: &str, codes: &mut [u32]) -> usize
+/// Whether the byte begins a sequence of three bytes, where it begins one.
+#[inline(always)]
+fn leads_three(a: u8) -> bool
+    ensures { MatchBool result ((0xE0 ≤ a) × (a < 0xF0)) ((a < 0xE0) ⊎ (0xF0 ≤ a)) }
+{
+    0xE0 <= a && a < 0xF0
+}
+
+/// The code point of two bytes that are a sequence.
+#[inline(always)]
+fn code_of_two(a: u8, b: u8) -> u32
+    requires { (0xC0 ≤ a) × (0x80 ≤ b) }
+    ensures { result ≡ (a - 0xC0) * 0x40 + (b - 0x80) }
+{
+    u32::from(a) * 0x40 + u32::from(b) - 0x3080
+}
+
+/// The code point of three bytes that are a sequence.
+#[inline(always)]
+fn code_of_three(a: u8, b: u8, c: u8) -> u32
+    requires { (0xE0 ≤ a) × (0x80 ≤ b) × (0x80 ≤ c) }
+    ensures { result ≡ (a - 0xE0) * 0x1000 + (b - 0x80) * 0x40 + (c - 0x80) }
+{
+    u32::from(a) * 0x1000 + u32::from(b) * 0x40 + u32::from(c) - 0xE_2080
+}
+
+/// The code point of four bytes that are a sequence.
+#[inline(always)]
+fn code_of_four(a: u8, b: u8, c: u8, d: u8) -> u32
+    requires { (0xF0 ≤ a) × (0x80 ≤ b) × (0x80 ≤ c) × (0x80 ≤ d) }
+    ensures { result ≡ (a - 0xF0) * 0x4_0000 + (b - 0x80) * 0x1000 + (c - 0x80) * 0x40 + (d - 0x80) }
+{
+    let high = u32::from(a) * 0x4_0000 + u32::from(b) * 0x1000 + u32::from(c) * 0x40;
+    high + u32::from(d) - 0x3C8_2080
+}
+
+/// The first code point of a text, and how many bytes it takes. A sequence of three bytes is tried
+/// first: where most are such, as in the scripts of East and South Asia, each test costs.
+#[inline(always)]
+fn first_code(text: &[u8]) -> (u32, usize)
+    requires text { IsUtf8 text.now }
+    requires some { 0 < length text.now }
+    ensures some { 0 < result.1 }
+    ensures first { IsFirst text.now result.1 result.0 }
+{
+    let a = text[0];
+    if leads_three(a) {
+        return (code_of_three(a, text[1], text[2]), 3);
+    }
+    if a < 0x80 {
+        return (u32::from(a), 1);
+    }
+    if a < 0xE0 {
+        return (code_of_two(a, text[1]), 2);
+    }
+    (code_of_four(a, text[1], text[2], text[3]), 4)
+}
+
+/// The same, sequence by sequence.
+fn fill_codes(text: &str, codes: &mut [u32]) -> usize
     requires { length text.now ≤ length codes.old }
     ensures within { result ≤ length codes.new }
     ensures codes { take result codes.new ≡ chars text.now }
 {
+    let bytes = text.as_bytes();
+    let mut at = 0;
     let mut n = 0;
-    for c in text.chars() {
-        codes[n] = u32::from(c);
+    while at < bytes.len() {
+        let (code, len) = first_code(&bytes[at..]);
+        codes[n] = code;
         n += 1;
+        at += len;
     }
     n
 }
