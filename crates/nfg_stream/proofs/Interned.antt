@@ -34,7 +34,7 @@ pub Interned-none : (longer : List (List ℕ)) (known : Texts) (n : ℕ) → Are
 Interned-none longer known n k some = absurd (some (at-zeros n k))
 
 -- what is known already is learned again by nothing
-learned-again : (known : Texts) (n : ℤ) (cluster : List ℕ) → spelling known n ≡ Some cluster → HasLearned known (several (cluster ∷ [])) known
+pub learned-again : (known : Texts) (n : ℤ) (cluster : List ℕ) → spelling known n ≡ Some cluster → HasLearned known (several (cluster ∷ [])) known
 learned-again known (pos c) cluster e =
     subst (λ t. HasLearned known (several (t ∷ [])) known) (sym (spelling-one known c cluster e).1) (IsSame-refl known)
 learned-again known (negsuc m) cluster e = by (is_several cluster)

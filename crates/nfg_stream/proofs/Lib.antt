@@ -3,6 +3,8 @@ pub mod Learned
 pub mod Holding
 pub mod Numbered
 pub mod Interned
+pub mod NumbersLemmas
+pub mod NarrowNumbers
 pub mod CollectedLemmas
 pub mod GraphemeTexts
 pub mod ReadingLemmas

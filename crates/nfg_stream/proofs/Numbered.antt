@@ -85,22 +85,37 @@ made-answer clusters old new numbers (Err error) short all graphemes pieces is =
     subst (λ e. HasMade clusters old new (Err e)) (sym is)
     (record { front = clusters; rest = []; parts = sym (append-nil clusters); learned = all.learned })
 
--- where there is no longer cluster, each is a code point
-plain-represents : (longer : List (List ℕ)) (count : ℕ) (known : Texts) (numbers : List ℤ) → count ≡ 0 → AreCounted count numbers → AreClusters (map (kept_as longer) numbers)
-    → Represents known numbers (map (kept_as longer) numbers)
-plain-represents longer count known [] none all are = tt
-plain-represents longer count known (pos c ∷ ns) none all are =
-    (spelling-scalar known c (and_parts (scalar c) true are.0.0).0, plain-represents longer count known ns none all.1 are.1)
-plain-represents longer count known (negsuc k ∷ ns) none all are = let below = all.0 in absurd (omega arith)
+-- none is a longer cluster
+abbrev pub ArePlain : List ℤ → Type 0
+ArePlain [] = Unit {0}
+ArePlain (pos c ∷ ns) = ArePlain ns
+ArePlain (negsuc k ∷ ns) = ⊥
 
-plain-learned : (longer : List (List ℕ)) (count : ℕ) (known : Texts) (numbers : List ℤ) → count ≡ 0 → AreCounted count numbers → HasLearned known (several (map (kept_as longer) numbers)) known
-plain-learned longer count known [] none all = IsSame-refl known
-plain-learned longer count known (pos c ∷ ns) none all = plain-learned longer count known ns none all.1
-plain-learned longer count known (negsuc k ∷ ns) none all = let below = all.0 in absurd (omega arith)
+-- where there is no longer cluster, each is a code point
+plain-counted : (count : ℕ) (numbers : List ℤ) → count ≡ 0 → AreCounted count numbers → ArePlain numbers
+plain-counted count [] none all = tt
+plain-counted count (pos c ∷ ns) none all = plain-counted count ns none all.1
+plain-counted count (negsuc k ∷ ns) none all = let below = all.0 in absurd (omega arith)
+
+plain-represents : (longer : List (List ℕ)) (known : Texts) (numbers : List ℤ) → ArePlain numbers → AreClusters (map (kept_as longer) numbers)
+    → Represents known numbers (map (kept_as longer) numbers)
+plain-represents longer known [] plain are = tt
+plain-represents longer known (pos c ∷ ns) plain are =
+    (spelling-scalar known c (and_parts (scalar c) true are.0.0).0, plain-represents longer known ns plain are.1)
+plain-represents longer known (negsuc k ∷ ns) never are = absurd never
+
+plain-learned : (longer : List (List ℕ)) (known : Texts) (numbers : List ℤ) → ArePlain numbers → HasLearned known (several (map (kept_as longer) numbers)) known
+plain-learned longer known [] plain = IsSame-refl known
+plain-learned longer known (pos c ∷ ns) plain = plain-learned longer known ns plain
+plain-learned longer known (negsuc k ∷ ns) never = absurd never
+
+pub Numbered-clear : (longer : List (List ℕ)) (known : Texts) (numbers : List ℤ) → ArePlain numbers → AreClusters (map (kept_as longer) numbers)
+    → AreNumbered (map (kept_as longer) numbers) known known numbers
+Numbered-clear longer known numbers plain are = record {
+  represents = plain-represents longer known numbers plain are;
+  learned = plain-learned longer known numbers plain;
+}
 
 pub Numbered-plain : (longer : List (List ℕ)) (known : Texts) (numbers : List ℤ) → length longer ≡ 0 → AreCounted (length longer) numbers
     → AreClusters (map (kept_as longer) numbers) → AreNumbered (map (kept_as longer) numbers) known known numbers
-Numbered-plain longer known numbers none all are = record {
-  represents = plain-represents longer (length longer) known numbers none all are;
-  learned = plain-learned longer (length longer) known numbers none all;
-}
+Numbered-plain longer known numbers none all are = Numbered-clear longer known numbers (plain-counted (length longer) numbers none all) are

@@ -1,10 +1,11 @@
 //! Clusters as the numbers that a string will have, but for those that a table must number.
-ghost use Rattle.std.specs.Prelude.{◌≡◌, ◌<◌, ◌≤◌, ℕ, ℤ, pos, List, [], ◌∷◌, ◌++◌, length, map, IfOk, OnOk, OnErr};
+ghost use Rattle.std.specs.Prelude.{◌≡◌, ◌<◌, ◌≤◌, ℕ, ℤ, List, [], ◌∷◌, ◌++◌, length, map, IfOk, OnOk, OnErr};
 ghost use Rattle.nfg_text.specs.Text.{IsText};
 ghost use Rattle.nfg_segment.specs.Given.{Given, nothing, first_or};
 ghost use Rattle.nfg_stream.specs.Collected.{kept_as, IsCounted, AreCounted};
 
 use crate::longer::Longer;
+use crate::numbers::Numbers;
 use nfg_segment::ClusterSink;
 use std::alloc::{AllocError, Global};
 use std::marker::Model;
@@ -13,7 +14,7 @@ use std::marker::Model;
 /// points share a number.
 #[derive(Drop)]
 pub(crate) struct Collected {
-    graphemes: Vec<i32>,
+    graphemes: Numbers,
     longer: Longer,
     first_long: Option<usize>,
 }
@@ -26,11 +27,11 @@ impl Model for Collected {
     ghost Value = { Given };
 
     ghost view = { λ c. record {
-      heads = map (kept_as c.longer) c.graphemes.items;
+      heads = map (kept_as c.longer) c.graphemes;
       first_long = c.first_long;
     } };
 
-    ghost invariant = { λ c. AreCounted (length c.longer) c.graphemes.items };
+    ghost invariant = { λ c. AreCounted (length c.longer) c.graphemes };
 }
 
 impl Collected {
@@ -39,7 +40,7 @@ impl Collected {
         ensures { result ≡ nothing }
     {
         Collected {
-            graphemes: Vec::new(alloc),
+            graphemes: Numbers::new(alloc),
             longer: Longer::new(alloc),
             first_long: None,
         }
@@ -53,9 +54,9 @@ impl Collected {
     }
 
     /// The numbers, and the longer clusters that they count.
-    pub(crate) fn into_parts(self) -> (Vec<i32>, Longer)
-        ensures heads { map (kept_as result.1) result.0.items ≡ self.heads }
-        ensures counted { AreCounted (length result.1) result.0.items }
+    pub(crate) fn into_parts(self) -> (Numbers, Longer)
+        ensures heads { map (kept_as result.1) result.0 ≡ self.heads }
+        ensures counted { AreCounted (length result.1) result.0 }
     {
         (self.graphemes, self.longer)
     }
@@ -85,7 +86,7 @@ impl ClusterSink for Collected {
     }
 
     fn push_run(&mut self, run: &[u32]) -> Result<(), AllocError> {
-        append_codes(&mut self.graphemes, run)?;
+        self.graphemes.append_codes(run)?;
         Ok(())
     }
 
@@ -112,12 +113,12 @@ fn kept(longer: &mut Longer, head: &[char]) -> Result<i32, AllocError>
 }
 
 /// Adds the number of a cluster at the end.
-fn push_kept(graphemes: &mut Vec<i32>, longer: &mut Longer, head: &[char]) -> Result<(), AllocError>
+fn push_kept(graphemes: &mut Numbers, longer: &mut Longer, head: &[char]) -> Result<(), AllocError>
     requires some { 0 < length head.now }
     requires short { length head.now ≤ 1024 }
-    ensures pushed { OnOk result ((n : ℤ) × (graphemes.new.items ≡ graphemes.old.items ++ n ∷ [])
+    ensures pushed { OnOk result ((n : ℤ) × (graphemes.new ≡ graphemes.old ++ n ∷ [])
         × (kept_as longer.new n ≡ head.now) × IsCounted (length longer.new) n) }
-    ensures none { OnErr result (graphemes.new.items ≡ graphemes.old.items) }
+    ensures none { OnErr result (graphemes.new ≡ graphemes.old) }
     ensures grew { (more : List (List ℕ)) × (longer.new ≡ longer.old ++ more) }
 {
     let number = kept(longer, head)?;
@@ -143,16 +144,16 @@ fn kept_slice(longer: &mut Longer, head: &[u32]) -> Result<i32, AllocError>
 
 /// Adds the number of a slice of a text at the end.
 fn push_kept_slice(
-    graphemes: &mut Vec<i32>,
+    graphemes: &mut Numbers,
     longer: &mut Longer,
     head: &[u32],
 ) -> Result<(), AllocError>
     requires text { IsText head.now }
     requires some { 0 < length head.now }
     requires short { length head.now ≤ 1024 }
-    ensures pushed { OnOk result ((n : ℤ) × (graphemes.new.items ≡ graphemes.old.items ++ n ∷ [])
+    ensures pushed { OnOk result ((n : ℤ) × (graphemes.new ≡ graphemes.old ++ n ∷ [])
         × (kept_as longer.new n ≡ head.now) × IsCounted (length longer.new) n) }
-    ensures none { OnErr result (graphemes.new.items ≡ graphemes.old.items) }
+    ensures none { OnErr result (graphemes.new ≡ graphemes.old) }
     ensures grew { (more : List (List ℕ)) × (longer.new ≡ longer.old ++ more) }
 {
     let number = kept_slice(longer, head)?;
@@ -166,31 +167,5 @@ fn first_or(first: Option<usize>, is_long: bool, here: usize) -> Option<usize>
     match first {
         Some(k) => Some(k),
         None => { if is_long { Some(here) } else { None } }
-    }
-}
-
-/// Adds code points at the end.
-fn append_codes(graphemes: &mut Vec<i32>, run: &[u32]) -> Result<(), AllocError>
-    requires { IsText run.now }
-    ensures all { OnOk result (graphemes.new.items ≡ graphemes.old.items ++ map (λ c. pos c) run.now) }
-    ensures none { OnErr result (graphemes.new.items ≡ graphemes.old.items) }
-{
-    let start = graphemes.len();
-    if run.len() >= usize::MAX - start {
-        return Err(AllocError);
-    }
-    graphemes.resize(start + run.len(), 0)?;
-    copy(run, &mut graphemes[start..]);
-    Ok(())
-}
-
-/// Copies each code point.
-fn copy(codes: &[u32], into: &mut [i32])
-    requires text { IsText codes.now }
-    requires room { length codes.now ≡ length into.old }
-    ensures { into.new ≡ map (λ c. pos c) codes.now }
-{
-    'codes: for k in 0..codes.len() {
-        into[k] = codes[k] as i32;
     }
 }

@@ -2,11 +2,16 @@
 #![tactic(auto)]
 
 mod collected;
+#[cfg(test)]
+mod cut_tests;
 mod error;
+#[cfg(test)]
+mod loads;
 mod longer;
 #[cfg(test)]
 mod longer_tests;
 mod numbering;
+mod numbers;
 mod reader;
 #[cfg(test)]
 mod rows;
@@ -16,6 +21,8 @@ mod stream;
 #[cfg(test)]
 mod tests;
 mod whole;
+#[cfg(test)]
+mod width_tests;
 
 pub use error::LoadError;
 pub use stream::DecodeStream;

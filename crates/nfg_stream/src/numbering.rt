@@ -1,18 +1,23 @@
 //! Clusters become numbers, and these a string.
-ghost use Rattle.std.specs.Prelude.{◌≡◌, ◌<◌, ◌≤◌, ◌<ℤ◌, List, ℕ, pos, negsuc, None, Err, OnOk, IfOk, IfErr, length, map, set, slice_index_or};
+ghost use Rattle.std.specs.Prelude.{◌≡◌, ◌<◌, ◌≤◌, ◌<ℤ◌, List, ℕ, pos, negsuc, true, None, Err, OnOk, IfOk, IfErr, length, map, set, slice_index_or};
+ghost use Rattle.std.specs.List.{list_all};
+ghost use Rattle.std.specs.Ordering.{int_eq};
+ghost use Rattle.nfg_lanes.specs.Lanes.{is_narrow_grapheme};
 ghost use Rattle.nfg_strand.specs.Pieces.{flat_piece};
 ghost use Rattle.nfg_syn.specs.Seen.{Keeps, SameCounts};
 ghost use Rattle.nfg_stream.specs.Collected.{kept_as, IsCounted, AreCounted};
 ghost use Rattle.nfg_stream.specs.Load.{HasMade, first_long};
 ghost use Rattle.nfg_stream.specs.Numbering.{IsCluster, AreClusters, AreInterned, Holds, HoldsSome};
 ghost use Rattle.nfg_stream.specs.Numbering.{AreNumbered, HasNumber};
+ghost use Rattle.nfg_stream.specs.Numbers.{AreKept, with_number};
 
 use crate::LoadError;
 use crate::collected::Collected;
 use crate::longer::Longer;
+use nfg_lanes::first_equal8;
 use nfg_strand::NString;
 use nfg_syn::{InternError, Synthetics};
-use std::alloc::Global;
+use std::alloc::{AllocError, Global};
 
 /// The longest string.
 const LENGTH_LIMIT: usize = 1 << 40;
@@ -36,15 +41,135 @@ pub(crate) fn string_from<T: Synthetics>(
     if let Some(at) = first_long {
         return Err(LoadError::ClusterLong { at: at as u64 });
     }
-    let (mut numbers, longer) = clusters.into_parts();
-    match number_all(alloc, table, pass, &longer, &mut numbers) {
-        Ok(()) => string_over(alloc, numbers),
+    let (numbers, longer) = clusters.into_parts();
+    let (narrow, wide) = numbers.into_parts();
+    if wide.is_empty() {
+        return string_of_narrow(alloc, table, pass, &longer, narrow);
+    }
+    string_of_wide(alloc, table, pass, &longer, wide)
+}
+
+/// The clusters of numbers in 8 bits as a string. The longer one of them is the first that was kept.
+fn string_of_narrow<T: Synthetics>(
+    alloc: Global,
+    table: &T,
+    pass: &mut T::Pass,
+    longer: &Longer,
+    numbers: Vec<i8>,
+) -> Result<NString, LoadError>
+    requires narrow { list_all is_narrow_grapheme numbers.items ≡ true }
+    requires counted { AreCounted (length longer.now) numbers.items }
+    requires clusters { AreClusters (map (kept_as longer.now) numbers.items) }
+    requires short { first_long (map (kept_as longer.now) numbers.items) ≡ None }
+    requires table { T.is_of table.now pass.old }
+    ensures table { T.is_of table.now pass.new }
+    ensures keeps { Keeps (T.seen pass.old) (T.seen pass.new) }
+    ensures counts { SameCounts (T.seen pass.old) (T.seen pass.new) }
+    ensures made { HasMade (map (kept_as longer.now) numbers.items)
+        (T.seen pass.old) (T.seen pass.new) result }
+{
+    let first = first_equal8(numbers.as_slice(), -1);
+    if first == numbers.len() {
+        return narrow_string(alloc, numbers);
+    }
+    match number_of(alloc, table, pass, longer.get(0)) {
+        Ok(number) => string_with(alloc, numbers, number),
         Err(error) => Err(error),
     }
 }
 
-/// The numbers as a string in one piece.
-fn string_over(alloc: Global, numbers: Vec<i32>) -> Result<NString, LoadError>
+/// The numbers with this one for each -1 as a string. Where it is -1 itself, nothing is to be done.
+fn string_with(alloc: Global, numbers: Vec<i8>, number: i32) -> Result<NString, LoadError>
+    requires { list_all is_narrow_grapheme numbers.items ≡ true }
+    ensures graphemes { IfOk result (λ made.
+        made.graphemes ≡ map (with_number number) numbers.items) }
+    ensures pieces { IfOk result (λ made.
+        made.pieces ≡ flat_piece (map (with_number number) numbers.items)) }
+    ensures refused { IfErr result (λ error. error ≡ LoadError.OutOfMemory) }
+{
+    if is_line_end(number) {
+        return narrow_string(alloc, numbers);
+    }
+    match with_each(alloc, &numbers, number) {
+        Ok(wide) => wide_string(alloc, wide),
+        Err(_) => Err(LoadError::OutOfMemory),
+    }
+}
+
+/// Whether this is the number of CR LF.
+fn is_line_end(number: i32) -> bool
+    ensures { result ≡ int_eq number (negsuc 0) }
+{
+    number == -1
+}
+
+/// The numbers with this one for each negative one.
+fn with_each(alloc: Global, numbers: &[i8], number: i32) -> Result<Vec<i32>, AllocError>
+    ensures { IfOk result (λ all. all.items ≡ map (with_number number) numbers.now) }
+{
+    let mut all = vec![in alloc; 0; numbers.len()]?;
+    copy_with(numbers, number, all.as_mut_slice());
+    Ok(all)
+}
+
+/// Copies the numbers with this one for each negative one.
+fn copy_with(numbers: &[i8], number: i32, into: &mut [i32])
+    requires { length numbers.now ≡ length into.old }
+    ensures { into.new ≡ map (with_number number) numbers.now }
+{
+    'numbers: for k in 0..numbers.len() {
+        into[k] = with_number(number, numbers[k]);
+    }
+}
+
+fn with_number(number: i32, kept: i8) -> i32
+    ensures { result ≡ with_number number kept }
+{
+    if kept < 0 { number } else { kept as i32 }
+}
+
+/// Numbers in 8 bits as a string in one piece.
+fn narrow_string(alloc: Global, numbers: Vec<i8>) -> Result<NString, LoadError>
+    requires { list_all is_narrow_grapheme numbers.items ≡ true }
+    ensures graphemes { IfOk result (λ made. made.graphemes ≡ numbers.items) }
+    ensures pieces { IfOk result (λ made. made.pieces ≡ flat_piece numbers.items) }
+    ensures refused { IfErr result (λ error. error ≡ LoadError.OutOfMemory) }
+{
+    if numbers.len() > LENGTH_LIMIT {
+        return Err(LoadError::OutOfMemory);
+    }
+    match NString::from_narrow(alloc, numbers) {
+        Ok(made) => Ok(made),
+        Err(_) => Err(LoadError::OutOfMemory),
+    }
+}
+
+/// The clusters of numbers as a string.
+fn string_of_wide<T: Synthetics>(
+    alloc: Global,
+    table: &T,
+    pass: &mut T::Pass,
+    longer: &Longer,
+    mut numbers: Vec<i32>,
+) -> Result<NString, LoadError>
+    requires counted { AreCounted (length longer.now) numbers.items }
+    requires clusters { AreClusters (map (kept_as longer.now) numbers.items) }
+    requires short { first_long (map (kept_as longer.now) numbers.items) ≡ None }
+    requires table { T.is_of table.now pass.old }
+    ensures table { T.is_of table.now pass.new }
+    ensures keeps { Keeps (T.seen pass.old) (T.seen pass.new) }
+    ensures counts { SameCounts (T.seen pass.old) (T.seen pass.new) }
+    ensures made { HasMade (map (kept_as longer.now) numbers.items)
+        (T.seen pass.old) (T.seen pass.new) result }
+{
+    match number_all(alloc, table, pass, longer, &mut numbers) {
+        Ok(()) => wide_string(alloc, numbers),
+        Err(error) => Err(error),
+    }
+}
+
+/// Numbers as a string in one piece.
+fn wide_string(alloc: Global, numbers: Vec<i32>) -> Result<NString, LoadError>
     ensures graphemes { IfOk result (λ made. made.graphemes ≡ numbers.items) }
     ensures pieces { IfOk result (λ made. made.pieces ≡ flat_piece numbers.items) }
     ensures refused { IfErr result (λ error. error ≡ LoadError.OutOfMemory) }

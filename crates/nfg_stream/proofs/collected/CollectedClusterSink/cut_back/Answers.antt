@@ -6,9 +6,9 @@ use Rattle.nfg_stream.proofs.collected.CollectedClusterSink.cut_back.Goals as go
 pub invariant_of-self : goal.invariant_of-self
 invariant_of-self c =
     let s = c.self.inside in
-    subst (AreCounted (length s.longer)) (sym c.truncate.ensures.items) (AreCounted-take (length s.longer) c.args.len s.graphemes.items c.self.invariant)
+    subst (AreCounted (length s.longer)) (sym c.truncate.ensures) (AreCounted-take (length s.longer) c.args.len s.graphemes c.self.invariant)
 
 pub returns-clause-heads : goal.returns-clause-heads
 returns-clause-heads c =
     let s = c.self.inside in
-    heads-cut s.longer s.graphemes.items c.truncate.new.self.items c.args.len c.args.self.now.heads c.truncate.ensures.items (ap (λ v. v.heads) c.self.view_is)
+    heads-cut s.longer s.graphemes c.truncate.new.self c.args.len c.args.self.now.heads c.truncate.ensures (ap (λ v. v.heads) c.self.view_is)

@@ -2,7 +2,7 @@ use Rattle.std.proofs.Common.{◌<◌, ◌++◌, ◌∷◌, [], pos, take, map, 
 use Rattle.std.proofs.lemmas.List.{take_more, take_more_set, map-append}
 use Rattle.std.proofs.lemmas.Int.{to_z_pos}
 use Rattle.nfg_stream.proofs.CollectedLemmas.{small-at}
-use Rattle.nfg_stream.proofs.collected.copy.Goals as goal
+use Rattle.nfg_stream.proofs.numbers.copy_wide.Goals as goal
 
 pub overflow_cast-into : goal.overflow_cast-into
 overflow_cast-into c = omega (arith, small-at c.args.codes.now c.codes.k 0 c.requires.text c.codes-test.true)
