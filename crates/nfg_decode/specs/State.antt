@@ -18,7 +18,9 @@ use Rattle.nfg_decode.specs.Mark.{MayBeMark, Reduces}
 
 -- the codes that the piece adds to those of the bytes before it stand at the end of the list now
 abbrev pub GivesNext : Encoding → List ℕ → List ℕ → List ℕ → List ℕ → Type 0
-GivesNext e bytes piece old new = (more : List ℕ) × (new ≡ old ++ more) × (decoded_prefix e (bytes ++ piece) ≡ decoded_prefix e bytes ++ more)
+GivesNext e bytes piece old new =
+    (more : List ℕ) × (new ≡ old ++ more)
+    × (decoded_prefix e (bytes ++ piece) ≡ decoded_prefix e bytes ++ more)
 
 -- the mark is still to come: all of the bytes are held
 pub record IsBeforeMark (s : State) (e : Encoding) (bytes : List ℕ) : Type 0 where
@@ -39,13 +41,16 @@ pub record IsBetween (settled : ℕ) (e : Encoding) (bytes : List ℕ) (form : F
 
 -- a stream in this state has read these bytes, and they may still become a text
 abbrev pub IsOpen : State → Encoding → List ℕ → Type 0
-IsOpen s e bytes = MatchOption s.form (IsBeforeMark s e bytes) (λ form. IsBetween s.settled e bytes form (bytes_of s.tail) [])
+IsOpen s e bytes =
+    MatchOption s.form (IsBeforeMark s e bytes) (λ form. IsBetween s.settled e bytes form (bytes_of s.tail) [])
 
 -- the piece can be read
 abbrev pub IsReady : State → Encoding → List ℕ → List ℕ → Opening → Type 0
 IsReady s e bytes piece o = MatchOption o.form
-    (IsBeforeMark (record { form = o.form; settled = s.settled; tail = o.tail }) e (bytes ++ piece) × (decoded_prefix e bytes ≡ []))
-    (λ form. (b : IsBetween (s.settled + o.mark) e (bytes ++ piece) form (bytes_of o.tail) (drop o.used piece)) × (decoded_prefix e bytes ≡ b.text))
+    (IsBeforeMark (record { form = o.form; settled = s.settled; tail = o.tail }) e (bytes ++ piece)
+    × (decoded_prefix e bytes ≡ []))
+    (λ form. (b : IsBetween (s.settled + o.mark) e (bytes ++ piece) form (bytes_of o.tail) (drop o.used piece))
+    × (decoded_prefix e bytes ≡ b.text))
 
 -- the piece was read
 pub record HasAdvanced (e : Encoding) (bytes piece old new : List ℕ) (next : Next) : Type 0 where
@@ -61,7 +66,8 @@ abbrev pub StepsOn : State → List ℕ → Step → Type 0
 StepsOn s piece (Whole code) = (length piece ≡ 1) × ((e : Encoding) (bytes old : List ℕ) → IsOpen s e bytes
     → HasAdvanced e bytes piece old (old ++ code ∷ []) (open_next s (s.settled + length (bytes_of s.tail) + 1) Empty))
 StepsOn s piece (Held tail) = (length piece ≡ 1) × (length (bytes_of tail) ≡ length (bytes_of s.tail) + 1)
-    × ((e : Encoding) (bytes old : List ℕ) → IsOpen s e bytes → HasAdvanced e bytes piece old old (open_next s s.settled tail))
+    × ((e : Encoding) (bytes old : List ℕ) → IsOpen s e bytes
+    → HasAdvanced e bytes piece old old (open_next s s.settled tail))
 StepsOn s piece Other = ⊤
 
 -- no bytes are held, and the piece is one byte and a whole sequence

@@ -20,7 +20,8 @@ unfoldable pub fed_count : ByteStream → ℕ
 fed_count s = s.fed
 
 -- what a piece behind these bytes gives, in one
-pub record Feeds (e : Encoding) (bytes piece old new : List ℕ) (after : ByteStream) (result : Result (Unit {0}) DecodeError) : Type 0 where
+pub record Feeds (e : Encoding) (bytes piece old new : List ℕ) (after : ByteStream)
+    (result : Result (Unit {0}) DecodeError) : Type 0 where
   pub read : UnlessOutOfMemory result (HasRead after e (bytes ++ piece))
   pub decoded : UnlessOutOfMemory result (GivesNext e bytes piece old new)
   pub malformed : (at : ℕ) → IsErrOf result (Malformed at) → IsAlreadyMalformed e (bytes ++ piece) at

@@ -10,10 +10,11 @@ use Rattle.nfg_script.specs.Script.{NumberedCommand}
 use Rattle.nfg_script.specs.Words.{◌>>=◌, words_of}
 use Rattle.nfg_script.specs.Line.{LineRead, is_skipped, read_words}
 
--- the most bytes and the most lines of a script
+-- the most bytes of a script
 abbrev pub byte_limit : ℕ
 byte_limit = 1048576
 
+-- the most lines of a script
 abbrev pub line_limit : ℕ
 line_limit = 10000
 

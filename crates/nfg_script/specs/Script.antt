@@ -13,10 +13,12 @@ pub record NumberedCommand : Type 0 where
   -- the code points of a text
   pub codes : List ℕ
 
+-- the command is a load
 abbrev pub is_load : Command → Bool
 is_load (Load name enc) = true
 is_load _ = false
 
+-- the command is a text
 abbrev pub is_text : Command → Bool
 is_text (Text name) = true
 is_text _ = false

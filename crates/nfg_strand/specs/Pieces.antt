@@ -44,7 +44,8 @@ clipped (p ∷ ps) start end =
 abbrev pub joined : List Piece → List Piece → List Piece
 joined ps qs = ps ++ qs
 
--- the pieces of a list that stands n times, where the list has pieces ps and stands in one block unless it is one piece
+-- the pieces of a list, in pieces ps, that stands n times: one piece keeps its unit, and several become one unit
+-- over a new block
 abbrev pub repeat_pieces : List ℤ → List Piece → ℕ → List Piece
 repeat_pieces xs ps zero = []
 repeat_pieces xs [] (suc n) = []

@@ -1,4 +1,4 @@
--- What contracts see of a string.
+-- What contracts see of a string (this project's own).
 use Rattle.std.specs.Prelude.{ℤ, List}
 use Rattle.nfg_strand.specs.declared.piece.Piece.{Piece}
 
