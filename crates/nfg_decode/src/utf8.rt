@@ -148,11 +148,8 @@ fn append_text(text: &str, codes: &mut [u32], into: &mut CodeList) -> Result<(),
 }
 
 /// Reads the longest front that is well-formed, and looks at what is left.
-pub(crate) fn read_utf8(
-    bytes: &[u8],
-    codes: &mut [u32],
-    into: &mut CodeList,
-) -> Result<Reach, AllocError>
+#[inline(never)]
+fn read_checked(bytes: &[u8], codes: &mut [u32], into: &mut CodeList) -> Result<Reach, AllocError>
     requires { 4 ≤ length codes.old }
     ensures ok { IfOk result
         (λ reach. Reads Utf8 bytes.now into.old into.new reach.at reach.is_malformed) }
@@ -176,6 +173,50 @@ pub(crate) fn read_utf8(
             })
         }
     }
+}
+
+/// How many bytes stand before a sequence that is cut off at the end, if one is.
+fn whole_len(bytes: &[u8]) -> usize
+    ensures { result ≤ length bytes.now }
+{
+    let len = bytes.len();
+    if len < 3 {
+        return len;
+    }
+    if bytes[len - 1] >= 0xC0 {
+        return len - 1;
+    }
+    if bytes[len - 2] >= 0xE0 {
+        return len - 2;
+    }
+    if bytes[len - 3] >= 0xF0 {
+        return len - 3;
+    }
+    len
+}
+
+/// The same. A sequence that is cut off at the end is kept out of the first check, which would refuse
+/// all of the bytes for it, and go over them once more for the place.
+pub(crate) fn read_utf8(
+    bytes: &[u8],
+    codes: &mut [u32],
+    into: &mut CodeList,
+) -> Result<Reach, AllocError>
+    requires { 4 ≤ length codes.old }
+    ensures ok { IfOk result
+        (λ reach. Reads Utf8 bytes.now into.old into.new reach.at reach.is_malformed) }
+    ensures err { OnErr result (Grew into.old into.new) }
+{
+    let whole = whole_len(bytes);
+    let Ok(text) = from_utf8(&bytes[..whole]) else {
+        return read_checked(bytes, codes, into);
+    };
+    append_text(text, codes, into)?;
+    let behind = read_checked(&bytes[whole..], codes, into)?;
+    Ok(Reach {
+        at: whole + behind.at,
+        is_malformed: behind.is_malformed,
+    })
 }
 
 /// Whether the second byte may follow the first (Table 3-7).
