@@ -219,7 +219,29 @@ pub(crate) fn read_utf8(
     })
 }
 
-/// Whether the second byte may follow the first (Table 3-7).
+/// The least byte that may follow the first (Table 3-7).
+#[inline(always)]
+fn least_second(a: u8) -> u8
+    ensures { result ≡ second_byte_min a }
+{
+    if a == 0xE0 {
+        return 0xA0;
+    }
+    if a == 0xF0 { 0x90 } else { 0x80 }
+}
+
+/// The greatest one.
+#[inline(always)]
+fn greatest_second(a: u8) -> u8
+    ensures { result ≡ second_byte_max a }
+{
+    if a == 0xED {
+        return 0x9F;
+    }
+    if a == 0xF4 { 0x8F } else { 0xBF }
+}
+
+/// Whether the second byte may follow the first.
 #[inline(always)]
 fn follows(a: u8, b: u8) -> bool
     ensures leads { OnTrue result ((0xC2 ≤ a) × (a ≤ 0xF4)) }
@@ -229,13 +251,7 @@ fn follows(a: u8, b: u8) -> bool
     if a < 0xC2 || a > 0xF4 {
         return false;
     }
-    match a {
-        0xE0 => 0xA0 <= b && b <= 0xBF,
-        0xED => 0x80 <= b && b <= 0x9F,
-        0xF0 => 0x90 <= b && b <= 0xBF,
-        0xF4 => 0x80 <= b && b <= 0x8F,
-        _ => 0x80 <= b && b <= 0xBF,
-    }
+    least_second(a) <= b && b <= greatest_second(a)
 }
 
 /// Whether the byte may be a third or fourth one.
