@@ -118,7 +118,7 @@ fn check_split(rt: &impl Abort, alloc: Global, text: &[u32], cuts: u32) -> Resul
     check_clusters(rt, alloc, text, &out)
 }
 
-/// The clusters are those of the NFC of the whole text.
+/// The clusters are those of the NFC of the whole text, each by its first 1,024 code points.
 fn check_clusters(
     rt: &impl Abort,
     alloc: Global,
@@ -137,7 +137,8 @@ fn check_clusters(
         assert!(rt; k < out.len());
         assert!(rt; start <= end);
         assert!(rt; end <= codes.len());
-        assert_eq!(rt; out.get(k), &codes[start..end]);
+        let cluster = &codes[start..end];
+        assert_eq!(rt; out.get(k), &cluster[..cluster.len().min(1024)]);
         start = end;
     }
     Ok(())
@@ -167,6 +168,36 @@ fn a_long_cluster_is_given_by_its_first_1024_code_points(rt: HostRuntime) -> Res
     assert_eq!(rt; out.len(), 3);
     assert_eq!(rt; out.first_long(), Some(1));
     Ok(())
+}
+
+#[test]
+fn a_long_cluster_is_given_alike_at_every_cut(rt: HostRuntime) -> Result<(), Fail> {
+    let alloc = rt.alloc();
+    let mut text = CodeList::new(alloc);
+    text.append(&[0x71])?;
+    for _ in 0..1024 {
+        text.append(&[0x301])?;
+    }
+    text.append(&[0x72])?;
+    for cut in 0..text.len() + 1 {
+        check_two_pieces(&rt, alloc, text.as_slice(), cut)?;
+    }
+    Ok(())
+}
+
+/// The text, whose first cluster alone is long, in two pieces.
+fn check_two_pieces(rt: &impl Abort, alloc: Global, text: &[u32], cut: usize) -> Result<(), Fail> {
+    assert!(rt; cut <= text.len());
+    let (first, second) = text.split_at(cut);
+    assert!(rt; is_text(first));
+    assert!(rt; is_text(second));
+    let mut segmenter = Segmenter::new(alloc);
+    let mut out = Clusters::new(alloc);
+    segmenter.feed(alloc, first, &mut out)?;
+    segmenter.feed(alloc, second, &mut out)?;
+    segmenter.finish(alloc, &mut out)?;
+    assert_eq!(rt; out.first_long(), Some(0));
+    check_clusters(rt, alloc, text, &out)
 }
 
 #[test]
