@@ -1,14 +1,14 @@
 -- Worked rows of the evaluation.
-use Rattle.std.proofs.Common.{◌≡◌, true, false, List, [], ◌∷◌, codes, Some, Ok, Err, refl}
+use Rattle.std.proofs.Common.{◌≡◌, ℕ, true, false, List, [], ◌∷◌, ◌++◌, length, nat_lt, codes, Some, Ok, Err, refl}
 use Rattle.std.specs.Fmt.{digits}
 use Rattle.nfg_decode.specs.declared.encoding.Encoding.TheVariants.{Utf8, Latin1}
 use Rattle.nfg_script.specs.declared.command.Command.TheVariants.{Load}
 use Rattle.nfg_script.specs.Script.{NumberedCommand}
-use Rattle.nfg_work.specs.declared.output.Cause.TheVariants.{CannotRead, OutOfRange, TableFull}
+use Rattle.nfg_work.specs.declared.output.Cause.TheVariants.{CannotRead, OutOfRange, AllTooLong, ClusterTooLong, TableFull, OutputTooLong}
 use Rattle.nfg_work.specs.declared.output.FileRead.TheVariants.{Failed}
 use Rattle.nfg_work.specs.Values.{no_value, is_narrow}
 use Rattle.nfg_work.specs.Printing.{shown, shape}
-use Rattle.nfg_work.specs.Evaluation.{takes_place, first_lacking, first_state, define_part, with_places, evaluate}
+use Rattle.nfg_work.specs.Evaluation.{output_limit, takes_place, first_lacking, first_state, define, define_part, with_places, with_clusters, print, evaluate}
 
 -- CR LF takes no place
 line_end_takes_none : takes_place (0xD ∷ 0xA ∷ []) ≡ false
@@ -42,6 +42,30 @@ part_at_the_end = refl
 
 part_past_the_end : define_part (first_state []) no_value 1 0 ≡ Err OutOfRange
 part_past_the_end = refl
+
+-- all values together may cost 2^29, and no more
+cost_at_the_limit : define (record (first_state []) { spent = 536870911 }) 1 no_value
+    ≡ Ok (record (first_state []) { values = no_value ∷ []; spent = 536870912 })
+cost_at_the_limit = refl
+
+cost_past_the_limit : define (record (first_state []) { spent = 536870911 }) 2 no_value ≡ Err AllTooLong
+cost_past_the_limit = refl
+
+-- the cost is looked at before the clusters
+long_cluster : with_clusters 16 [] (Some 2) (Ok (first_state [])) ≡ Err (ClusterTooLong 2)
+long_cluster = refl
+
+cost_before_long_cluster : with_clusters 16 [] (Some 2) (Err AllTooLong) ≡ Err AllTooLong
+cost_before_long_cluster = refl
+
+-- output grows by what is printed, unless it would be too long
+printed_behind : print (record (first_state []) { output = 0x31 ∷ [] }) (0xA ∷ [])
+    ≡ Ok (record (first_state []) { output = 0x31 ∷ 0xA ∷ [] })
+printed_behind = refl
+
+output_past_the_limit : (output bytes : List ℕ) → nat_lt output_limit (length (output ++ bytes)) ≡ true
+    → print (record (first_state []) { output = output }) bytes ≡ Err OutputTooLong
+output_past_the_limit output bytes over = rw over refl
 
 -- Latin-1 ends at FF
 lacking_second : first_lacking Latin1 ((0xFF ∷ []) ∷ (0x100 ∷ []) ∷ []) ≡ Some 1

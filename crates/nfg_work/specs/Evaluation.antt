@@ -20,6 +20,7 @@ use Rattle.nfg_work.specs.declared.output.Output.{Output}
 use Rattle.nfg_work.specs.Values.{Value, no_value, flat, part, is_line_end}
 use Rattle.nfg_work.specs.Printing.{shown, shape, line_of}
 
+-- what the evaluation keeps between two commands
 pub record State : Type 0 where
   -- the value of each name, in the order of definitions
   pub values : List Value
@@ -114,6 +115,7 @@ abbrev pub put : State → List ℕ → Option ℕ → Result State Cause
 put state bytes (Some at) = Err (NotEncodable at)
 put state bytes None = print state bytes
 
+-- one command: the state behind it, or the cause of its refusal
 abbrev pub step : (places : ℕ) → State → NumberedCommand → Command → Result State Cause
 step places state numbered (Load name enc) = load places state enc state.reads
 step places state numbered (Text name) = define_new places state (length numbered.codes) (graphemes_of numbered.codes)
@@ -147,11 +149,12 @@ evaluate script reads places = evaluate_from places (first_state reads) script
 abbrev pub file_limit : ℕ
 file_limit = 67108864
 
--- no file that was read has more
+-- what was read, a file where there is one, has no more
 abbrev pub IsWithinLimit : FileRead → Type 0
 IsWithinLimit (Bytes bytes) = length bytes ≤ file_limit
 IsWithinLimit TooLong = Unit {0}
 IsWithinLimit Failed = Unit {0}
 
+-- no file of those that were read has more
 abbrev pub AreWithinLimit : List FileRead → Type 0
 AreWithinLimit reads = All IsWithinLimit reads
