@@ -2,7 +2,7 @@
 ghost use Rattle.std.specs.Prelude.{◌<◌, length};
 ghost use Rattle.nfg_syn.specs.OwnTexts.{IsOwnPass};
 
-use crate::loads::{check_load, check_string};
+use crate::loads::{check_each_byte, check_load, check_string};
 use crate::rows::ROWS;
 use crate::spelled::encoded;
 use crate::string_of;
@@ -94,7 +94,7 @@ fn check_text(
     }
 }
 
-/// The text in this encoding, unless it lacks a code point, at each cut into two and three pieces.
+/// The text in this encoding, unless it lacks a code point, byte by byte, and at each cut into two and three pieces.
 fn check_encoding(
     rt: &impl Abort,
     alloc: Global,
@@ -107,18 +107,11 @@ fn check_encoding(
     requires { IsOwnPass table.now pass.old }
     ensures { IsOwnPass table.now pass.new }
 {
-    if let Some(bytes) = encoded(alloc, encoding, text)? {
+    if let Some(list) = encoded(alloc, encoding, text)? {
+        let bytes = list.as_slice();
+        check_each_byte(rt, alloc, table, pass, encoding, bytes, graphemes)?;
         'cuts: for first in 0..bytes.len() + 1 {
-            check_cuts(
-                rt,
-                alloc,
-                table,
-                pass,
-                encoding,
-                bytes.as_slice(),
-                first,
-                graphemes,
-            )?;
+            check_cuts(rt, alloc, table, pass, encoding, bytes, first, graphemes)?;
         }
     }
     Ok(())

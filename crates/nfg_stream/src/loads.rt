@@ -1,5 +1,7 @@
 //! What comes of bytes in three pieces, for the tests.
+ghost use Rattle.std.specs.Prelude.{◌≤◌, ◌+◌, ◌^◌, length};
 ghost use Rattle.nfg_syn.specs.OwnTexts.{IsOwnPass};
+ghost use Rattle.nfg_stream.specs.Stream.{fed_count};
 
 use crate::{DecodeStream, LoadError};
 use nfg_decode::Encoding;
@@ -77,4 +79,42 @@ fn load(
     let _ = stream.feed(alloc, &bytes[first..second]);
     let _ = stream.feed(alloc, &bytes[second..]);
     Ok(stream.finish(alloc, table, pass))
+}
+
+/// The bytes, each fed alone, have these graphemes.
+pub(crate) fn check_each_byte(
+    rt: &impl Abort,
+    alloc: Global,
+    table: &OwnTable,
+    pass: &mut OwnPass,
+    encoding: Encoding,
+    bytes: &[u8],
+    graphemes: &[i32],
+) -> Result<(), Fail>
+    requires { IsOwnPass table.now pass.old }
+    ensures { IsOwnPass table.now pass.new }
+{
+    assert!(rt; bytes.len() < 1 << 20);
+    let mut stream = DecodeStream::new(alloc, encoding);
+    feed_all(alloc, &mut stream, bytes, 1)?;
+    let string = stream.finish(alloc, table, pass)?;
+    check_string(rt, &string, graphemes)
+}
+
+/// Feeds the bytes in pieces of `len`.
+pub(crate) fn feed_all(
+    alloc: Global,
+    stream: &mut DecodeStream,
+    bytes: &[u8],
+    len: usize,
+) -> Result<(), LoadError>
+    requires { fed_count stream.old + length bytes.now ≤ 2 ^ 32 }
+{
+    let mut rest = bytes;
+    while !rest.is_empty() {
+        let (piece, after) = rest.split_at(rest.len().min(len.max(1)));
+        stream.feed(alloc, piece)?;
+        rest = after;
+    }
+    Ok(())
 }

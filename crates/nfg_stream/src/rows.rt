@@ -5,8 +5,9 @@ pub(crate) type Row = (&'static [u32], &'static [&'static [u32]]);
 
 /// Marks that reorder or compose, jamo, flags, conjuncts, joined emoji, line ends, prepended marks, and
 /// code points that compose to what breaks otherwise. The graphemes are those of another implementation.
-pub(crate) static ROWS: [Row; 24] = [
+pub(crate) static ROWS: [Row; 25] = [
     (&[], &[]),
+    (&[0x65, 0x301], &[&[0xE9]]),
     (&[0x65, 0x301, 0x71], &[&[0xE9], &[0x71]]),
     (&[0x71, 0x323, 0x307], &[&[0x71, 0x323, 0x307]]),
     (&[0x71, 0x307, 0x323], &[&[0x71, 0x323, 0x307]]),

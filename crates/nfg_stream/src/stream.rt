@@ -16,8 +16,9 @@ use nfg_strand::NString;
 use nfg_syn::Synthetics;
 use std::alloc::Global;
 
-/// A file that becomes a string of graphemes, in pieces of any lengths. It holds the clusters, what the
-/// decoder and the segmenter hold, and never the bytes or the text.
+/// A file that becomes a string of graphemes, in pieces of any lengths. It holds the clusters, at most three
+/// bytes, and what the segmenter holds of the text. That is bounded but for a run of code points that do not
+/// start safely (marks, trailing jamo), which is held whole until one comes that does.
 #[derive(Drop)]
 pub struct DecodeStream {
     reader: Reader,

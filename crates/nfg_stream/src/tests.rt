@@ -1,7 +1,7 @@
 //! What no clause says: malformed tails and long clusters, and that each call succeeds with ample memory.
 ghost use Rattle.nfg_syn.specs.OwnTexts.{IsOwnPass};
 
-use crate::loads::check_load;
+use crate::loads::{check_each_byte, check_load};
 use crate::{DecodeStream, LoadError};
 use nfg_decode::Encoding;
 use nfg_syn::{OwnPass, OwnTable};
@@ -62,6 +62,44 @@ fn check_refusals(
     Ok(())
 }
 
+/// e, an acute accent and q in UTF-16: with the mark in either order, and with none, which is the high byte first.
+static MARKED: [&[u8]; 3] = [
+    &[0xFF, 0xFE, 0x65, 0x00, 0x01, 0x03, 0x71, 0x00],
+    &[0xFE, 0xFF, 0x00, 0x65, 0x03, 0x01, 0x00, 0x71],
+    &[0x00, 0x65, 0x03, 0x01, 0x00, 0x71],
+];
+
+#[test]
+fn a_mark_tells_the_order_at_every_cut(rt: HostRuntime) -> Result<(), Fail> {
+    let alloc = rt.alloc();
+    let (table, mut pass) = OwnTable::new(alloc, 16)?;
+    'rows: for bytes in MARKED {
+        check_marked(&rt, alloc, &table, &mut pass, bytes)?;
+    }
+    Ok(())
+}
+
+/// The bytes in UTF-16 are two graphemes, byte by byte and at each cut into two pieces.
+fn check_marked(
+    rt: &impl Abort,
+    alloc: Global,
+    table: &OwnTable,
+    pass: &mut OwnPass,
+    bytes: &[u8],
+) -> Result<(), Fail>
+    requires { IsOwnPass table.now pass.old }
+    ensures { IsOwnPass table.now pass.new }
+{
+    let graphemes = [0xE9, 0x71];
+    let utf16 = Encoding::Utf16;
+    check_each_byte(rt, alloc, table, pass, utf16, bytes, &graphemes)?;
+    'cuts: for first in 0..bytes.len() {
+        let cuts = [first, first];
+        check_load(rt, alloc, table, pass, utf16, bytes, cuts, &graphemes, None)?;
+    }
+    Ok(())
+}
+
 /// The letter q and so many acute accents, and then the letter r, in UTF-8.
 fn accented(alloc: Global, count: usize) -> Result<ByteList, AllocError> {
     let mut bytes = ByteList::from_slice(alloc, &[0x71])?;
@@ -100,7 +138,10 @@ fn check_accented(
     Ok(())
 }
 
-static CUTS: [usize; 6] = [0, 1, 2, 1024, 2046, 2047];
+/// Where a text of 2,048 bytes or two more is cut: at its ends, and inside accents and between them.
+static CUTS: [usize; 14] = [
+    0, 1, 2, 3, 256, 511, 768, 1023, 1024, 1535, 2045, 2046, 2047, 2048,
+];
 
 #[test]
 fn a_cluster_of_1024_code_points_is_not_too_long(rt: HostRuntime) -> Result<(), Fail> {

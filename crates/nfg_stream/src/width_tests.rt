@@ -1,10 +1,9 @@
 //! How many bits a grapheme of what was loaded has.
-ghost use Rattle.std.specs.Prelude.{◌+◌, ◌^◌, ◌≤◌, ◌<◌, length};
-ghost use Rattle.nfg_stream.specs.Stream.{fed_count};
+ghost use Rattle.std.specs.Prelude.{◌<◌};
 
-use crate::loads::check_string;
+use crate::DecodeStream;
+use crate::loads::{check_string, feed_all};
 use crate::spelled::encoded;
-use crate::{DecodeStream, LoadError};
 use nfg_decode::Encoding;
 use nfg_syn::OwnTable;
 use std::alloc::Global;
@@ -73,23 +72,5 @@ fn check_width(
     check_string(rt, &string, graphemes)?;
     assert!(rt; string.strands() == 1);
     assert_eq!(rt; string.piece(0).narrow, is_narrow);
-    Ok(())
-}
-
-/// Feeds the bytes in pieces of `len`.
-fn feed_all(
-    alloc: Global,
-    stream: &mut DecodeStream,
-    bytes: &[u8],
-    len: usize,
-) -> Result<(), LoadError>
-    requires { fed_count stream.old + length bytes.now ≤ 2 ^ 32 }
-{
-    let mut rest = bytes;
-    while !rest.is_empty() {
-        let (piece, after) = rest.split_at(rest.len().min(len.max(1)));
-        stream.feed(alloc, piece)?;
-        rest = after;
-    }
     Ok(())
 }

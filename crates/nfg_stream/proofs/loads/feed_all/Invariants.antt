@@ -1,6 +1,6 @@
 use Rattle.std.proofs.Common.{◌≤◌, ◌+◌, ◌^◌, length}
 use Rattle.nfg_stream.specs.Stream.{fed_count}
-use Rattle.nfg_stream.proofs.width_tests.feed_all.Given as goal
+use Rattle.nfg_stream.proofs.loads.feed_all.Given as goal
 
 abbrev pub invariant-loop-rest : goal.invariant-loop-rest
 invariant-loop-rest l = record { fed : fed_count l.stream + length l.rest ≤ 2 ^ 32 }
