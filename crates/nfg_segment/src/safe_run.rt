@@ -1,8 +1,9 @@
 //! Code points that start safely, one after another.
-ghost use Rattle.std.specs.Prelude.{◌≡◌, ◌<◌, ◌≤◌, ◌+◌, ℕ, true, List, [], take, length, IsTrue, IfOk};
+ghost use Rattle.std.specs.Prelude.{◌≡◌, ◌<◌, ◌≤◌, ◌+◌, ℕ, true, List, [], ◌∷◌, take, length, IsTrue, IfOk};
 ghost use Rattle.std.specs.Char.{IsScalar};
 ghost use Rattle.std.specs.List.{slice_index_or};
 ghost use Rattle.nfg_text.specs.Breaks.{IsKindOf};
+ghost use Rattle.nfg_text.specs.Grapheme.{is_grapheme_break};
 ghost use Rattle.nfg_text.specs.Graphemes.{starts_safely};
 ghost use Rattle.nfg_text.specs.Text.{IsText};
 ghost use Rattle.nfg_segment.specs.Given.{Grew, with_clusters};
@@ -149,6 +150,14 @@ fn kind_of(c: u32) -> Kind
     ensures { IsKindOf result c }
 {
     Kind::of(to_char(c))
+}
+
+/// Whether a cluster ends between the two code points where it begins before the first.
+pub(crate) fn are_parted(first: char, next: char) -> bool
+    ensures { result ≡ is_grapheme_break true (first ∷ []) (next ∷ []) }
+{
+    let memory = Memory::new().then(kind_of(first as u32));
+    memory.breaks_before(kind_of(next as u32))
 }
 
 /// How many clusters of one code point there are in a row, with the one that ends there.
