@@ -89,6 +89,9 @@ impl Held {
         ensures marked { self.new.marked ≡ self.old.marked }
         ensures grew { Grew (S.given out.old) (S.given out.new) }
     {
+        if self.tail.as_slice().is_empty() {
+            return Ok(());
+        }
         if let Some(c) = self.single() {
             self.cluster.push(c, out)?;
             self.tail.clear();

@@ -29,7 +29,8 @@ pub(crate) struct Reach {
 }
 
 /// Goes on with code points that start safely, each followed by another, and says where the last one
-/// is, with which it does not go on. A row of plain ones is left to be taken as a whole.
+/// is, with which it does not go on. Plain ones in a row, or behind a line feed, are left to be taken
+/// as a whole.
 pub(crate) fn push_safe<S: ClusterSink>(
     open_cluster: &mut OpenCluster,
     text: &[u32],
@@ -58,7 +59,7 @@ pub(crate) fn push_safe<S: ClusterSink>(
         if !next_kind.starts_safely() {
             break;
         }
-        if is_plain_row(reach, next_kind) {
+        if is_plain_row(reach, text[at], next_kind) {
             break;
         }
         reach = go_on(open_cluster, text, at, reach, kind, out)?;
@@ -172,8 +173,9 @@ fn singles_with(reach: Reach, end: usize) -> u32
     }
 }
 
-/// Whether a row of clusters of one code point goes on with a plain one.
+/// Whether a row of clusters of one code point, or what comes behind a line feed, goes on with a plain
+/// code point.
 #[inline(always)]
-fn is_plain_row(reach: Reach, next: Kind) -> bool {
-    reach.singles >= ROW && next.is_plain()
+fn is_plain_row(reach: Reach, last: u32, next: Kind) -> bool {
+    (reach.singles >= ROW) | (last == 0xA) && next.is_plain()
 }
