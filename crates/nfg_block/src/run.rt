@@ -63,19 +63,21 @@ impl<'a> Iterator for Run<'a> {
 
     #[inline(always)]
     fn next(&mut self) -> Option<i32> {
-        match self.cells {
-            RunCells::Narrow(cells) => {
+        match &mut self.cells {
+            RunCells::Narrow(left) => {
+                let cells = *left;
                 if cells.is_empty() {
                     return None;
                 }
-                self.cells = RunCells::Narrow(&cells[1..]);
+                *left = &cells[1..];
                 Some(cells[0] as i32)
             }
-            RunCells::Wide(cells) => {
+            RunCells::Wide(left) => {
+                let cells = *left;
                 if cells.is_empty() {
                     return None;
                 }
-                self.cells = RunCells::Wide(&cells[1..]);
+                *left = &cells[1..];
                 Some(cells[0])
             }
         }
