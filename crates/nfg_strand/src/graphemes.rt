@@ -25,7 +25,7 @@ impl<'a> Model for Graphemes<'a> {
     ghost view = { λ g. g.run ++ g.rest };
 }
 
-/// The first grapheme of the next block range, the others of it, and the place after it.
+// The first grapheme of the next block range, the others of it, and the place after it.
 #[inline(never)]
 fn next_run<'a>(rest: Place<'a>) -> Option<(i32, Run<'a>, Place<'a>)>
     ensures { MatchOption result (rest.entry ≡ []) (λ r. rest.entry ≡ r.0 ∷ (r.1 ++ r.2)) }
