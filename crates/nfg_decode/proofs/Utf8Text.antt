@@ -1,5 +1,5 @@
 -- The code points of a text, part by part.
-use Rattle.std.proofs.Common.{◌≡◌, ℕ, ◌+◌, ◌<◌, ◌≤◌, inl, inr, false, List, [], ◌∷◌, ◌++◌, length, set, take, drop, refl, sym, ap, ◌∙◌, subst, arith, length-append, take-append-drop, append_assoc, IsUtf8, IsCharBoundary}
+use Rattle.std.proofs.Common.{◌≡◌, ℕ, ◌+◌, ◌<◌, ◌≤◌, inl, inr, Bool, false, List, [], ◌∷◌, ◌++◌, length, set, take, drop, refl, sym, ap, ◌∙◌, subst, arith, length-append, length-drop, drop-drop, take-append-drop, append_assoc, IsUtf8, IsCharBoundary}
 use Rattle.std.proofs.lemmas.List.{take_more_set, take_all}
 use Rattle.std.proofs.lemmas.Str.{chars_past_char, length-encode, len_utf8_bounds, IsCharBoundary-past_char, chars-append, chars-nil, IsUtf8-take}
 use Rattle.std.proofs.lemmas.Bool.{cases_lt}
@@ -13,7 +13,7 @@ use Rattle.nfg_decode.specs.Utf8.{decode_utf8}
 use Rattle.nfg_decode.specs.Encoding.{decode, IsAlreadyMalformed}
 use Rattle.nfg_decode.specs.Reads.{IsUnfinished, Reads}
 use Rattle.nfg_decode.proofs.ReadsLemmas.{IsUnfinished-end}
-use Rattle.nfg_decode.proofs.Stepwise.{Breaks, breaks}
+use Rattle.nfg_decode.proofs.Stepwise.{Breaks, breaks, two_texts}
 use Rattle.nfg_decode.proofs.Utf8Laws.{valid_front, decode_utf8_text, fault_at, utf8_stepwise}
 use Rattle.nfg_decode.proofs.Utf8Tails.{decode_is_utf8, error_len_stays, no_error_len_mends}
 
@@ -89,4 +89,18 @@ fault_read bytes old new at o short v l e =
       front = decode_is_utf8 (take at bytes) ∙ decode_utf8_text (take at bytes) front;
       added = e;
       behind = open_or_not (drop at bytes) o b.there l;
+    }
+
+-- a text at the front, and what is read of the bytes behind it
+pub reads_behind : (bytes old mid new : List ℕ) (k at : ℕ) (m : Bool) → k ≤ length bytes → IsUtf8 (take k bytes) → mid ≡ old ++ chars (take k bytes)
+    → Reads Utf8 (drop k bytes) mid new at m → Reads Utf8 bytes old new (k + at) m
+reads_behind bytes old mid new k at m within u e r =
+    let front = take k bytes in
+    record {
+      within = omega (arith, r.within, length-drop k bytes);
+      text = chars front ++ r.text;
+      front = decode_is_utf8 (take (k + at) bytes)
+          ∙ two_texts decode_utf8 utf8_stepwise bytes k at (chars front) r.text (decode_utf8_text front u) (sym (decode_is_utf8 (take at (drop k bytes))) ∙ r.front);
+      added = r.added ∙ ap (λ l. l ++ r.text) e ∙ append_assoc old (chars front) r.text;
+      behind = subst (λ l. MatchBool m (IsAlreadyMalformed Utf8 l 0) (IsUnfinished Utf8 l)) (drop-drop at k bytes) r.behind;
     }

@@ -24,6 +24,17 @@ pub(crate) enum Step {
     Other,
 }
 
+/// What became of a piece that may be one byte.
+#[derive(Clone, Copy, Debug)]
+pub(crate) enum Taken {
+    /// It ends a sequence, or is held.
+    All,
+    /// There is no memory for its code point, and nothing has changed.
+    OutOfMemory,
+    /// It is neither, and nothing has changed.
+    Nothing,
+}
+
 /// The code point of a byte that is a whole sequence.
 #[inline(always)]
 pub(crate) fn code_of_byte(form: Form, byte: u8) -> Option<u32>

@@ -1,15 +1,16 @@
 //! A stream of bytes that comes in pieces.
 
-ghost use Rattle.std.specs.Prelude.{◌≡◌, ℕ, ◌+◌, ◌^◌, ◌≤◌, List, [], ◌++◌, length, Ok, Err, OnOk, IfSome, IsErrOf};
+ghost use Rattle.std.specs.Prelude.{◌≡◌, ⊤, ℕ, ◌+◌, ◌^◌, ◌≤◌, List, [], ◌++◌, length, Ok, Err, OnOk, IfSome, IsErrOf};
 ghost use Rattle.nfg_decode.specs.declared.encoding.Encoding.{Encoding};
 ghost use Rattle.nfg_decode.specs.Encoding.{decode, decoded_prefix, IsAlreadyMalformed};
 ghost use Rattle.nfg_decode.specs.State.{GivesNext};
+ghost use Rattle.nfg_decode.specs.Step.{MatchTaken};
 ghost use Rattle.nfg_decode.specs.Tail.{bytes_of};
 ghost use Rattle.nfg_decode.specs.Answer.{UnlessOutOfMemory, answer_of};
 
 use crate::encoding::{DecodeError, Encoding};
 use crate::state::{State, advance, first_state, lone_code, step_of};
-use crate::step::Step;
+use crate::step::{Step, Taken};
 use crate::tail::{Tail, tail_len};
 use nfg_text::CodeList;
 use std::alloc::Global;
@@ -106,7 +107,11 @@ impl ByteStream {
             (fed_count self.new ≡ fed_count self.old + length piece.now) }
     {
         let Some(code) = self.lone(piece) else {
-            return self.take_step(piece, into);
+            return match self.take_step(piece, into) {
+                Taken::All => Ok(()),
+                Taken::OutOfMemory => Err(DecodeError::OutOfMemory),
+                Taken::Nothing => self.take_any(piece, into),
+            };
         };
         let Ok(()) = into.push(code) else {
             return Err(DecodeError::OutOfMemory);
@@ -127,35 +132,37 @@ impl ByteStream {
         }
     }
 
-    /// Takes a piece. A single byte that ends a sequence or is held takes a short way.
+    /// Takes a single byte that ends a sequence or is held. Any other piece it leaves as it is.
     #[inline(never)]
     #[tactic(auto, unfolding(crate::specs::Stream::fed_count))]
-    fn take_step(&mut self, piece: &[u8], into: &mut CodeList) -> Result<(), DecodeError>
+    fn take_step(&mut self, piece: &[u8], into: &mut CodeList) -> Taken
         requires { fed_count self.old + length piece.now ≤ 2 ^ 32 }
-        ensures feeds { (e : Encoding) (bytes : List ℕ) → HasRead self.old e bytes
-            → Feeds e bytes piece.now into.old into.new self.new result }
-        ensures out_of_memory { IsErrOf result DecodeError.OutOfMemory
-            → (self.new ≡ self.old) × (into.new ≡ into.old) }
-        ensures count { UnlessOutOfMemory result
-            (fed_count self.new ≡ fed_count self.old + length piece.now) }
+        ensures feeds { (e : Encoding) (bytes : List ℕ) → HasRead self.old e bytes → MatchTaken result
+            (Feeds e bytes piece.now into.old into.new self.new (Ok tt))
+            (Feeds e bytes piece.now into.old into.new self.new (Err DecodeError.OutOfMemory)) ⊤ }
+        ensures unchanged { MatchTaken result ⊤
+            ((self.new ≡ self.old) × (into.new ≡ into.old))
+            ((self.new ≡ self.old) × (into.new ≡ into.old)) }
+        ensures count { MatchTaken result
+            (fed_count self.new ≡ fed_count self.old + length piece.now) ⊤ ⊤ }
     {
         match self.step(piece) {
             Step::Whole(code) => {
                 let Ok(()) = into.push(code) else {
-                    return Err(DecodeError::OutOfMemory);
+                    return Taken::OutOfMemory;
                 };
                 let settled = self.state.settled + tail_len(self.state.tail) as u64 + 1;
                 self.fed += 1;
                 self.state.tail = Tail::Empty;
                 self.state.settled = settled;
-                Ok(())
+                Taken::All
             }
             Step::Held(tail) => {
                 self.fed += 1;
                 self.state.tail = tail;
-                Ok(())
+                Taken::All
             }
-            Step::Other => self.take_any(piece, into),
+            Step::Other => Taken::Nothing,
         }
     }
 

@@ -148,11 +148,8 @@ fn append_text(text: &str, codes: &mut [u32], into: &mut CodeList) -> Result<(),
 }
 
 /// Reads the longest front that is well-formed, and looks at what is left.
-pub(crate) fn read_utf8(
-    bytes: &[u8],
-    codes: &mut [u32],
-    into: &mut CodeList,
-) -> Result<Reach, AllocError>
+#[inline(never)]
+fn read_checked(bytes: &[u8], codes: &mut [u32], into: &mut CodeList) -> Result<Reach, AllocError>
     requires { 4 ≤ length codes.old }
     ensures ok { IfOk result
         (λ reach. Reads Utf8 bytes.now into.old into.new reach.at reach.is_malformed) }
@@ -178,7 +175,73 @@ pub(crate) fn read_utf8(
     }
 }
 
-/// Whether the second byte may follow the first (Table 3-7).
+/// How many bytes stand before a sequence that is cut off at the end, if one is.
+fn whole_len(bytes: &[u8]) -> usize
+    ensures { result ≤ length bytes.now }
+{
+    let len = bytes.len();
+    if len < 3 {
+        return len;
+    }
+    if bytes[len - 1] >= 0xC0 {
+        return len - 1;
+    }
+    if bytes[len - 2] >= 0xE0 {
+        return len - 2;
+    }
+    if bytes[len - 3] >= 0xF0 {
+        return len - 3;
+    }
+    len
+}
+
+/// The same. A sequence that is cut off at the end is kept out of the first check, which would refuse
+/// all of the bytes for it, and go over them once more for the place.
+pub(crate) fn read_utf8(
+    bytes: &[u8],
+    codes: &mut [u32],
+    into: &mut CodeList,
+) -> Result<Reach, AllocError>
+    requires { 4 ≤ length codes.old }
+    ensures ok { IfOk result
+        (λ reach. Reads Utf8 bytes.now into.old into.new reach.at reach.is_malformed) }
+    ensures err { OnErr result (Grew into.old into.new) }
+{
+    let whole = whole_len(bytes);
+    let Ok(text) = from_utf8(&bytes[..whole]) else {
+        return read_checked(bytes, codes, into);
+    };
+    append_text(text, codes, into)?;
+    let behind = read_checked(&bytes[whole..], codes, into)?;
+    Ok(Reach {
+        at: whole + behind.at,
+        is_malformed: behind.is_malformed,
+    })
+}
+
+/// The least byte that may follow the first (Table 3-7).
+#[inline(always)]
+fn least_second(a: u8) -> u8
+    ensures { result ≡ second_byte_min a }
+{
+    if a == 0xE0 {
+        return 0xA0;
+    }
+    if a == 0xF0 { 0x90 } else { 0x80 }
+}
+
+/// The greatest one.
+#[inline(always)]
+fn greatest_second(a: u8) -> u8
+    ensures { result ≡ second_byte_max a }
+{
+    if a == 0xED {
+        return 0x9F;
+    }
+    if a == 0xF4 { 0x8F } else { 0xBF }
+}
+
+/// Whether the second byte may follow the first.
 #[inline(always)]
 fn follows(a: u8, b: u8) -> bool
     ensures leads { OnTrue result ((0xC2 ≤ a) × (a ≤ 0xF4)) }
@@ -188,13 +251,7 @@ fn follows(a: u8, b: u8) -> bool
     if a < 0xC2 || a > 0xF4 {
         return false;
     }
-    match a {
-        0xE0 => 0xA0 <= b && b <= 0xBF,
-        0xED => 0x80 <= b && b <= 0x9F,
-        0xF0 => 0x90 <= b && b <= 0xBF,
-        0xF4 => 0x80 <= b && b <= 0x8F,
-        _ => 0x80 <= b && b <= 0xBF,
-    }
+    least_second(a) <= b && b <= greatest_second(a)
 }
 
 /// Whether the byte may be a third or fourth one.

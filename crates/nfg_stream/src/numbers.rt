@@ -1,5 +1,5 @@
 //! Numbers in order, in 8 bits while each of them fits.
-ghost use Rattle.std.specs.Prelude.{◌≡◌, ◌<◌, ◌≤◌, pos, true, nat_lt, IsTrue, [], ◌∷◌, ◌++◌, length, map, take, OnOk, OnErr};
+ghost use Rattle.std.specs.Prelude.{◌≡◌, ◌<◌, ◌≤◌, ℤ, List, pos, true, nat_lt, IsTrue, [], ◌∷◌, ◌++◌, length, map, take, OnOk, OnErr};
 ghost use Rattle.std.specs.List.{list_all};
 ghost use Rattle.nfg_lanes.specs.Lanes.{is_narrow_grapheme};
 ghost use Rattle.nfg_text.specs.Text.{IsText};
@@ -8,6 +8,9 @@ ghost use Rattle.nfg_stream.specs.Numbers.{AreKept, is_ascii};
 use nfg_lanes::widen;
 use std::alloc::{AllocError, Global};
 use std::marker::Model;
+
+/// How many code points become numbers at once.
+const PART: usize = 256;
 
 /// Numbers in order. All of them stand in `narrow` while each fits 8 bits, and all in `wide` from the
 /// first on that does not.
@@ -165,11 +168,40 @@ fn append_wide(numbers: &mut Vec<i32>, run: &[u32]) -> Result<(), AllocError>
     ensures unchanged { OnErr result (numbers.new.items ≡ numbers.old.items) }
 {
     let start = numbers.len();
-    if run.len() >= usize::MAX - start {
-        return Err(AllocError);
+    match append_parts(numbers, run) {
+        Ok(()) => Ok(()),
+        Err(error) => {
+            numbers.truncate(start);
+            Err(error)
+        }
     }
-    numbers.resize(start + run.len(), 0)?;
-    copy_wide(run, &mut numbers[start..]);
+}
+
+/// Adds code points at the end, or a front of them where memory is wanting. They go through a scratch,
+/// so no room is cleared before it is written.
+fn append_parts(numbers: &mut Vec<i32>, run: &[u32]) -> Result<(), AllocError>
+    requires { IsText run.now }
+    ensures appended { OnOk result (numbers.new.items ≡ numbers.old.items ++ map (λ c. pos c) run.now) }
+    ensures grew { (more : List ℤ) × (numbers.new.items ≡ numbers.old.items ++ more) }
+{
+    let mut scratch = [0; PART];
+    let mut rest = run;
+    'parts: while rest.len() > PART {
+        append_part(numbers, &rest[..PART], &mut scratch)?;
+        rest = &rest[PART..];
+    }
+    append_part(numbers, rest, &mut scratch)
+}
+
+/// Adds as many code points at the end as the scratch has room for.
+fn append_part(numbers: &mut Vec<i32>, part: &[u32], scratch: &mut [i32]) -> Result<(), AllocError>
+    requires text { IsText part.now }
+    requires room { length part.now ≤ length scratch.old }
+    ensures appended { OnOk result (numbers.new.items ≡ numbers.old.items ++ map (λ c. pos c) part.now) }
+    ensures unchanged { OnErr result (numbers.new.items ≡ numbers.old.items) }
+{
+    copy_wide(part, &mut scratch[..part.len()]);
+    numbers.extend_from_slice(&scratch[..part.len()])?;
     Ok(())
 }
 

@@ -1,6 +1,7 @@
 use Rattle.std.proofs.Common.{◌≡◌, ◌+◌, length, refl, sym, ap, subst, arith}
 use Rattle.nfg_decode.specs.declared.tail.Tail.TheVariants.{Empty}
 use Rattle.nfg_decode.specs.State.{HasAdvanced, open_next}
+use Rattle.nfg_decode.specs.Stream.{HasRead, Feeds}
 use Rattle.nfg_decode.specs.Tail.{bytes_of}
 use Rattle.nfg_decode.proofs.StreamLemmas.{read_open, feeds_nothing, feeds_on}
 use Rattle.nfg_decode.proofs.stream.ByteStream.take_piece.Goals as goal
@@ -24,3 +25,9 @@ returns-clause-feeds c e bytes h =
     let counted = subst (λ n. HasAdvanced e bytes piece old new (open_next s.state n Empty)) settled given in
     let gone = subst (λ t. HasAdvanced e bytes piece old new (open_next s.state (s.state.settled + 1) t)) (sym lone.1) counted in
     feeds_on e bytes piece old new s.state (open_next s.state (s.state.settled + 1) s.state.tail) _ still gone refl lone.0 refl
+
+pub returns-in-Nothing-clause-feeds : goal.returns-in-Nothing-clause-feeds
+returns-in-Nothing-clause-feeds c e bytes h =
+    let same = c.in-Nothing.ensures.unchanged in
+    subst (λ old. Feeds e bytes c.args.piece.now old c.take_any.new.into c.take_any.new.self c.take_any.result) same.1
+    (c.take_any.ensures.feeds e bytes (subst (λ s. HasRead s e bytes) (sym same.0) h))
