@@ -1,6 +1,8 @@
 -- Parts of texts, and bytes that decode to one.
-use Rattle.std.proofs.Common.{◌≡◌, ℕ, ◌<◌, List, [], ◌++◌, get_or, take, drop, sym, ap, ◌∙◌, subst, take-append-drop}
+use Rattle.std.proofs.Common.{◌≡◌, ℕ, ◌<◌, List, [], ◌∷◌, ◌++◌, get_or, take, drop, refl, sym, ap, ◌∙◌, subst, take-append-drop}
+use Rattle.std.proofs.lemmas.Bool.{and_from}
 use Rattle.std.proofs.lemmas.List.{get_or_default}
+use Rattle.std.specs.Char.{IsScalar}
 use Rattle.nfg_text.specs.Text.{IsText}
 use Rattle.nfg_text.proofs.Proved.{parts_of_text}
 use Rattle.nfg_decode.specs.Encoding.{AreBytes}
@@ -17,3 +19,13 @@ text_gained old new before more whole none added is all =
 
 pub are_bytes : (l : List ℕ) → ((i : ℕ) → get_or l i 0 < 256) → AreBytes l
 are_bytes l small k d within = rw (get_or_default l k d 0 within) (small k)
+
+-- one code point more
+pub text_more : (old new : List ℕ) (c : ℕ) → new ≡ old ++ c ∷ [] → IsText old → IsScalar c → IsText new
+text_more old new c is all one = subst IsText (sym is) ((parts_of_text old (c ∷ [])).1 (all, and_from _ _ one refl))
+
+pub text_front : (whole front back : List ℕ) → whole ≡ front ++ back → IsText whole → IsText front
+text_front whole front back is all = ((parts_of_text front back).0 (subst IsText is all)).0
+
+pub text_back : (whole front back : List ℕ) → whole ≡ front ++ back → IsText whole → IsText back
+text_back whole front back is all = ((parts_of_text front back).0 (subst IsText is all)).1

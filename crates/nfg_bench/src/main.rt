@@ -8,6 +8,7 @@ mod decode;
 mod lanes;
 mod pipeline;
 mod plain;
+mod segment;
 mod strand;
 mod stream;
 mod texts;
@@ -24,6 +25,7 @@ fn main(rt: HostRuntime) -> io::Result<()> {
             "decode" => decode::report(&rt, rt.alloc()),
             "strand" => strand::report(&rt, rt.alloc()),
             "stream" => stream::report(&rt, rt.alloc()),
+            "segment" => segment::report(&rt, rt.alloc()),
             _ => println!(rt; "No such subject: {word}"),
         },
         None => println!(rt; "Name what to time: lanes, blocks, decode, strand, stream"),

@@ -5,6 +5,7 @@ ghost use Rattle.std.specs.List.{common_prefix_len, list_all, position_from, pos
 ghost use Rattle.nfg_lanes.specs.Lanes.{is_narrow_grapheme};
 ghost use Rattle.nfg_block.specs.Block.{block_of};
 
+use crate::run::Run;
 use nfg_lanes::{
     common_front_mixed, common_front8, common_front32, first_equal8, first_equal32, narrow,
     narrow_fits, widen,
@@ -145,6 +146,18 @@ impl Block {
         match &self.cells {
             Cells::Narrow(cells) => cells[k] as i32,
             Cells::Wide(cells) => cells[k],
+        }
+    }
+
+    /// The graphemes from index `from` to before `until`, one after another.
+    pub fn run(&self, from: usize, until: usize) -> Run<'_>
+        requires ordered { from ≤ until }
+        requires in_range { until ≤ length self.now.list }
+        ensures { result ≡ slice_range self.now.list from until }
+    {
+        match &self.cells {
+            Cells::Narrow(cells) => Run::narrow(&cells[from..until]),
+            Cells::Wide(cells) => Run::wide(&cells[from..until]),
         }
     }
 

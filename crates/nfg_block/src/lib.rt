@@ -2,7 +2,9 @@
 #![tactic(auto)]
 
 mod block;
+mod run;
 #[cfg(test)]
 mod tests;
 
 pub use block::Block;
+pub use run::Run;

@@ -26,18 +26,22 @@ of_lines c = by (is_plain c) refl
     by true e h = inl e
     by false e h = inr (eqb-true c 0xA h)
 
-graphemes-alone : (c : ℕ) → starts_safely c ≡ true → graphemes_of (c ∷ []) ≡ (c ∷ []) ∷ []
+pub graphemes-alone : (c : ℕ) → starts_safely c ≡ true → graphemes_of (c ∷ []) ≡ (c ∷ []) ∷ []
 graphemes-alone c safe = ap clusters (safe_starts_stay c safe) ∙ clusters-single c
 
 -- a line feed before anything
 pub graphemes-line : (y : List ℕ) → graphemes_of (0xA ∷ y) ≡ (0xA ∷ []) ∷ graphemes_of y
 graphemes-line y = graphemes_at_stable (0xA ∷ []) [] y (inr (inl ([], refl))) ∙ ap (λ l. l ++ graphemes_of y) (graphemes-alone 0xA line_feed_safe)
 
+-- two code points that the rules part
+pub graphemes-parted : (a b : ℕ) (y : List ℕ) → starts_safely a ≡ true → starts_safely b ≡ true → is_grapheme_break true (a ∷ []) (b ∷ []) ≡ true
+    → graphemes_of (a ∷ b ∷ y) ≡ (a ∷ []) ∷ graphemes_of (b ∷ y)
+graphemes-parted a b y safe_a safe_b parted =
+    let broken = ap (λ l. is_grapheme_break true (reverse l) (b ∷ [])) (safe_starts_stay a safe_a) ∙ parted in
+    graphemes_at_safe_start (a ∷ []) b y safe_b broken ∙ ap (λ l. l ++ graphemes_of (b ∷ y)) (graphemes-alone a safe_a)
+
 before_line : (a : ℕ) (y : List ℕ) → is_plain a ≡ true → graphemes_of (a ∷ 0xA ∷ y) ≡ (a ∷ []) ∷ graphemes_of (0xA ∷ y)
-before_line a y plain =
-    let safe = (plain_stands_apart a plain).safe in
-    let broken = ap (λ l. is_grapheme_break true (reverse l) (0xA ∷ [])) (safe_starts_stay a safe) ∙ plain_breaks_before_line_feed a [] [] plain in
-    graphemes_at_safe_start (a ∷ []) 0xA y line_feed_safe broken ∙ ap (λ l. l ++ graphemes_of (0xA ∷ y)) (graphemes-alone a safe)
+before_line a y plain = graphemes-parted a 0xA y (plain_stands_apart a plain).safe line_feed_safe (plain_breaks_before_line_feed a [] [] plain)
 
 graphemes-pair : (a b : ℕ) (y : List ℕ) → is_of_plain_lines a ≡ true → is_of_plain_lines b ≡ true → graphemes_of (a ∷ b ∷ y) ≡ (a ∷ []) ∷ graphemes_of (b ∷ y)
 graphemes-pair a b y of_a of_b =

@@ -1,8 +1,9 @@
 -- What a segmenter knows after plain lines.
-use Rattle.std.proofs.Common.{◌≡◌, ℕ, zero, suc, ◌+◌, ◌<◌, ◌||◌, ◌==◌, true, false, List, [], ◌∷◌, ◌++◌, length, take, get_or, refl, sym, ap, subst, ◌∙◌, arith, append_assoc, append-nil, inl, inr}
+use Rattle.std.proofs.Common.{◌≡◌, ℕ, zero, suc, ◌+◌, ◌<◌, ◌||◌, ◌==◌, true, false, List, [], ◌∷◌, ◌++◌, length, take, get_or, refl, sym, ap, ap₂, subst, ◌∙◌, arith, append_assoc, append-nil, inl, inr}
 use Rattle.std.proofs.lemmas.List.{length-append, take_more, take_all}
 use Rattle.nfg_text.specs.Forms.{nfc}
-use Rattle.nfg_text.specs.Graphemes.{clusters, graphemes_of}
+use Rattle.nfg_text.specs.Grapheme.{is_grapheme_break}
+use Rattle.nfg_text.specs.Graphemes.{clusters, graphemes_of, starts_safely}
 use Rattle.nfg_text.specs.Plain.{is_plain, AllPlain, singles}
 use Rattle.nfg_text.proofs.AtBreak.{clusters-nil}
 use Rattle.nfg_text.proofs.Proved.{plain_stands_apart, line_feed_is_not_plain, safe_starts_stay}
@@ -11,7 +12,7 @@ use Rattle.nfg_segment.specs.Held.{Unfinished, Held, Keeps, is_some}
 use Rattle.nfg_segment.specs.PlainLines.{is_of_plain_lines, ArePlainLines}
 use Rattle.nfg_segment.proofs.Keeping.{none-is_nil}
 use Rattle.nfg_segment.proofs.OneCluster.{clusters-single}
-use Rattle.nfg_segment.proofs.PlainLines.{of_lines, plain_lines_are_singles, whole_lines_are_singles, lines-append, lines-plain, lines-take, lines-at}
+use Rattle.nfg_segment.proofs.PlainLines.{of_lines, graphemes-alone, graphemes-parted, plain_lines_are_singles, whole_lines_are_singles, lines-append, lines-plain, lines-take, lines-at}
 use Rattle.nfg_segment.proofs.Stable.{graphemes-nil, stable-all, stable-but_one, no_line}
 use Rattle.nfg_segment.proofs.Steps.{held}
 
@@ -114,6 +115,32 @@ module _ (h : Held) (o : Unfinished) (fed : List ℕ) (given : List (List ℕ)) 
       subst (λ l. Follows (held o tail) (fed ++ l) (given ++ singles (h.tail ++ l)))
       (ap (λ c. take end lines ++ c ∷ []) (sym line) ∙ last_of lines end last d size at)
       (follows-line_feed tail (take end lines) (lines-take end lines all) e)
+
+-- a code point that is all that is held is given out where the rules part it from the next one
+pub follows-parted : (h : Held) (o : Unfinished) (tail fed : List ℕ) (given : List (List ℕ)) (p c : ℕ) (f : Follows h fed given) → f.tracks.cluster ≡ [] → h.tail ≡ p ∷ []
+    → starts_safely p ≡ true → starts_safely c ≡ true → (c ≡ 0xA → ⊥) → is_grapheme_break true (p ∷ []) (c ∷ []) ≡ true → tail ≡ c ∷ [] → o ≡ h.cluster
+    → Follows (held o tail) (fed ++ c ∷ []) (given ++ (p ∷ []) ∷ [])
+follows-parted h o tail fed given p c f none one safe_p safe_c other parted e same =
+    record {
+      tracks =
+          record {
+            cluster = [];
+            keeps = subst (λ u. Keeps u []) (sym same) (subst (Keeps h.cluster) none f.tracks.keeps);
+            one = clusters-nil;
+            goes_on = λ u. goes u ∙ ap (λ l. (given ++ (p ∷ []) ∷ []) ++ graphemes_of (l ++ u)) (sym e);
+          };
+      stable = stable-but_one (fed ++ c ∷ []) (given ++ (p ∷ []) ∷ []) (omega (arith, ap length whole, length-append (given ++ (p ∷ []) ∷ []) ((c ∷ []) ∷ []))) (no_line fed c other);
+    }
+  where
+    goes : (u : List ℕ) → graphemes_of ((fed ++ c ∷ []) ++ u) ≡ (given ++ (p ∷ []) ∷ []) ++ graphemes_of (c ∷ u)
+    goes u =
+        ap graphemes_of (append_assoc fed (c ∷ []) u) ∙ f.tracks.goes_on (c ∷ u)
+        ∙ ap₂ (λ k t. given ++ clusters (k ++ nfc (t ++ c ∷ u))) none one
+        ∙ ap (λ l. given ++ l) (graphemes-parted p c u safe_p safe_c parted)
+        ∙ sym (append_assoc given ((p ∷ []) ∷ []) (graphemes_of (c ∷ u)))
+
+    whole : graphemes_of (fed ++ c ∷ []) ≡ (given ++ (p ∷ []) ∷ []) ++ (c ∷ []) ∷ []
+    whole = ap graphemes_of (sym (append-nil (fed ++ c ∷ []))) ∙ goes [] ∙ ap (λ l. (given ++ (p ∷ []) ∷ []) ++ l) (graphemes-alone c safe_c)
 
 pub apart-from : (h : Held) (fed : List ℕ) (given : List (List ℕ)) (f : Follows h fed given) → is_some f.tracks.cluster ≡ false → AllPlain h.tail → IsApart h fed given
 apart-from h fed given f none plain = record { follows = f; none = none-is_nil f.tracks.cluster none; plain = plain }

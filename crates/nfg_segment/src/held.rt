@@ -14,7 +14,7 @@ use crate::ClusterSink;
 use crate::draft::{Draft, to_char};
 use crate::open_cluster::OpenCluster;
 use crate::plain::plain_lines_len;
-use crate::safe_run::push_safe;
+use crate::safe_run::{are_parted, push_safe};
 use nfg_text::{Kind, append_nfc, compose_pair, is_plain, starts_safely};
 use std::alloc::{AllocError, Global};
 use std::marker::Model;
@@ -89,6 +89,9 @@ impl Held {
         ensures marked { self.new.marked ≡ self.old.marked }
         ensures grew { Grew (S.given out.old) (S.given out.new) }
     {
+        if self.tail.as_slice().is_empty() {
+            return Ok(());
+        }
         if let Some(c) = self.single() {
             self.cluster.push(c, out)?;
             self.tail.clear();
@@ -189,6 +192,67 @@ impl Held {
         }
     }
 
+    /// Gives out the one code point that is all that is held, and holds the next one in its place,
+    /// where the rules part them. Says whether they do; if not, nothing is done.
+    fn replace_single<S: ClusterSink>(
+        &mut self,
+        next: char,
+        out: &mut S,
+    ) -> Result<bool, AllocError>
+        requires { starts_safely next ≡ true }
+        ensures follows { (fed : List ℕ) (given : List (List ℕ)) → Follows self.old.now fed given
+            → IfOk result (λ done. IsTrue done → (more : List (List ℕ)) × (Follows self.new.now (fed ++ next ∷ []) (given ++ more))
+            × (S.given out.new ≡ with_clusters (S.given out.old) more)) }
+        ensures same { IfOk result (λ done. done ≡ false → self.new.now ≡ self.old.now) }
+        ensures same_out { IfOk result (λ done. done ≡ false → S.given out.new ≡ S.given out.old) }
+        ensures marked { self.new.marked ≡ self.old.marked }
+        ensures grew { Grew (S.given out.old) (S.given out.new) }
+    {
+        if next == '\n' {
+            return Ok(false);
+        }
+        if self.cluster.is_some() {
+            return Ok(false);
+        }
+        match self.single() {
+            None => Ok(false),
+            Some(first) => {
+                if !are_parted(first, next) {
+                    return Ok(false);
+                }
+                out.push_run(&[first as u32])?;
+                self.tail.clear();
+                self.tail.push(next)?;
+                Ok(true)
+            }
+        }
+    }
+
+    /// Goes on with code points that start safely, one or a row. Says with how many.
+    fn take_next_safe<S: ClusterSink>(
+        &mut self,
+        text: &[u32],
+        out: &mut S,
+    ) -> Result<usize, AllocError>
+        requires text { IsText text.now }
+        requires some { 0 < length text.now }
+        requires first { starts_safely (slice_index_or text.now 0 0) ≡ true }
+        ensures follows { (fed : List ℕ) (given : List (List ℕ)) → Follows self.old.now fed given
+            → IfOk result (λ n. (more : List (List ℕ)) × (Follows self.new.now (fed ++ take n text.now) (given ++ more))
+            × (S.given out.new ≡ with_clusters (S.given out.old) more)) }
+        ensures some { IfOk result (λ n. (0 < n) × (n ≤ length text.now)) }
+        ensures marked { self.new.marked ≡ self.old.marked }
+        ensures grew { Grew (S.given out.old) (S.given out.new) }
+    {
+        if goes_on_safely(text) {
+            return self.take_safe(text, out);
+        }
+        if self.replace_single(to_char(text[0]), out)? {
+            return Ok(1);
+        }
+        self.take_safe(text, out)
+    }
+
     /// Goes on with some of a text of any kind, and says with how much.
     fn take_mixed<S: ClusterSink>(&mut self, text: &[u32], out: &mut S) -> Result<usize, AllocError>
         requires text { IsText text.now }
@@ -201,7 +265,7 @@ impl Held {
         ensures grew { Grew (S.given out.old) (S.given out.new) }
     {
         if starts_safely(text[0]) {
-            return self.take_safe(text, out);
+            return self.take_next_safe(text, out);
         }
         if self.compose_last(to_char(text[0]))? {
             return Ok(1);

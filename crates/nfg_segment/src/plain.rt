@@ -12,19 +12,21 @@ const FEW: usize = 4;
 
 /// How many code points of plain lines the text begins with. Few are soon found; many are counted
 /// by blocks.
-#[inline]
+#[inline(always)]
 pub(crate) fn plain_lines_len(text: &[u32]) -> usize
     ensures within { result ≤ length text.now }
     ensures plain { ArePlainLines (take result text.now) }
 {
-    let some = lines_up_to(text, 0, text.len().min(FEW));
-    if some < FEW {
+    let few = text.len().min(FEW);
+    let some = plain_up_to(text, 0, few);
+    if some < few && !is_of_plain_lines(text[some]) {
         return some;
     }
     many_lines(text, some)
 }
 
 /// How many code points of plain lines the text begins with, of which `from` are known.
+#[inline(never)]
 fn many_lines(text: &[u32], from: usize) -> usize
     requires from { from ≤ length text.now }
     requires known { ArePlainLines (take from text.now) }
@@ -70,11 +72,36 @@ fn lines_up_to(text: &[u32], from: usize, end: usize) -> usize
     ensures within { result ≤ end }
     ensures plain { ArePlainLines (take result text.now) }
 {
-    let mut at = from;
+    let mut at = plain_up_to(text, from, end);
     while at < end && is_of_plain_lines(text[at]) {
+        at = plain_up_to(text, at + 1, end);
+    }
+    at
+}
+
+/// The same for plain code points of the first plane alone, which are told by one look-up each.
+#[inline(always)]
+fn plain_up_to(text: &[u32], from: usize, end: usize) -> usize
+    requires from { from ≤ end }
+    requires end { end ≤ length text.now }
+    requires known { ArePlainLines (take from text.now) }
+    ensures from { from ≤ result }
+    ensures within { result ≤ end }
+    ensures plain { ArePlainLines (take result text.now) }
+{
+    let mut at = from;
+    while at < end && is_low_plain(text[at]) {
         at += 1;
     }
     at
+}
+
+/// Whether the code point is a plain one of the first plane.
+#[inline(always)]
+fn is_low_plain(c: u32) -> bool
+    ensures { IsTrue result → is_of_plain_lines c ≡ true }
+{
+    c < 0x1_0000 && is_plain(c)
 }
 
 #[inline(always)]

@@ -1,8 +1,9 @@
 //! Code points that start safely, one after another.
-ghost use Rattle.std.specs.Prelude.{◌≡◌, ◌<◌, ◌≤◌, ◌+◌, ℕ, true, List, [], take, length, IsTrue, IfOk};
+ghost use Rattle.std.specs.Prelude.{◌≡◌, ◌<◌, ◌≤◌, ◌+◌, ℕ, true, List, [], ◌∷◌, take, length, IsTrue, IfOk};
 ghost use Rattle.std.specs.Char.{IsScalar};
 ghost use Rattle.std.specs.List.{slice_index_or};
 ghost use Rattle.nfg_text.specs.Breaks.{IsKindOf};
+ghost use Rattle.nfg_text.specs.Grapheme.{is_grapheme_break};
 ghost use Rattle.nfg_text.specs.Graphemes.{starts_safely};
 ghost use Rattle.nfg_text.specs.Text.{IsText};
 ghost use Rattle.nfg_segment.specs.Given.{Grew, with_clusters};
@@ -28,7 +29,8 @@ pub(crate) struct Reach {
 }
 
 /// Goes on with code points that start safely, each followed by another, and says where the last one
-/// is, with which it does not go on. A row of plain ones is left to be taken as a whole.
+/// is, with which it does not go on. Plain ones in a row, or behind a line feed, are left to be taken
+/// as a whole.
 pub(crate) fn push_safe<S: ClusterSink>(
     open_cluster: &mut OpenCluster,
     text: &[u32],
@@ -57,7 +59,7 @@ pub(crate) fn push_safe<S: ClusterSink>(
         if !next_kind.starts_safely() {
             break;
         }
-        if is_plain_row(reach, next_kind) {
+        if is_plain_row(reach, text[at], next_kind) {
             break;
         }
         reach = go_on(open_cluster, text, at, reach, kind, out)?;
@@ -151,6 +153,14 @@ fn kind_of(c: u32) -> Kind
     Kind::of(to_char(c))
 }
 
+/// Whether a cluster ends between the two code points where it begins before the first.
+pub(crate) fn are_parted(first: char, next: char) -> bool
+    ensures { result ≡ is_grapheme_break true (first ∷ []) (next ∷ []) }
+{
+    let memory = Memory::new().then(kind_of(first as u32));
+    memory.breaks_before(kind_of(next as u32))
+}
+
 /// How many clusters of one code point there are in a row, with the one that ends there.
 #[inline(always)]
 fn singles_with(reach: Reach, end: usize) -> u32
@@ -163,8 +173,9 @@ fn singles_with(reach: Reach, end: usize) -> u32
     }
 }
 
-/// Whether a row of clusters of one code point goes on with a plain one.
+/// Whether a row of clusters of one code point, or what comes behind a line feed, goes on with a plain
+/// code point.
 #[inline(always)]
-fn is_plain_row(reach: Reach, next: Kind) -> bool {
-    reach.singles >= ROW && next.is_plain()
+fn is_plain_row(reach: Reach, last: u32, next: Kind) -> bool {
+    (reach.singles >= ROW) | (last == 0xA) && next.is_plain()
 }

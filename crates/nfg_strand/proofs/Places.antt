@@ -6,7 +6,7 @@ use Rattle.std.proofs.lemmas.Nat.{div-add-mod', mod_below, div_below, mul-add-lt
 use Rattle.nfg_strand.proofs.Repeats.{length-repeat, drop-repeat}
 use Rattle.nfg_strand.proofs.Ranges.{drop-append, slice_range-append}
 use Rattle.nfg_strand.specs.Pieces.{clipped, clipped_piece}
-use Rattle.std.specs.Prelude.{ℤ, slice_range}
+use Rattle.std.specs.Prelude.{slice_range}
 use Rattle.std.specs.List.{repeat}
 use Rattle.nfg_strand.specs.Strand.{Repetition, graphemes, graphemes_of, piece_of, pieces, left_of, IsPlaceIn, IsInFirst}
 
@@ -42,31 +42,19 @@ pub IsPlaceIn-none : (strands : List Repetition) (at later : ℕ) → length str
 IsPlaceIn-none [] at later none = tt
 IsPlaceIn-none (x ∷ strands) at later none = absurd (omega arith)
 
--- the first grapheme is the one at the place, and the next place is in the unit, in its next time, or in the next strand
-module _ (strands : List Repetition) (s : Repetition) (at later : ℕ) (x d : ℤ) (some : 0 < length strands) (is : s ≡ get_or strands 0 s) (read : x ≡ get_or s.unit at d) where
-  pub next_in_unit : at + 1 < length s.unit → left_of strands at later ≡ x ∷ left_of strands (at + 1) later
-  next_in_unit within =
-      let rest = left_of-first strands s (at + 1) later some is in
-      left_of-first strands s at later some is
-      ∙ ap (λ ys. ys ++ (repeat later s.unit ++ graphemes (drop 1 strands))) (drop_more s.unit at d (omega arith) ∙ ap (λ y. y ∷ drop (at + 1) s.unit) (sym read))
-      ∙ ap (λ ys. x ∷ ys) (sym rest)
-
-  last_of_unit : at + 1 ≡ length s.unit → drop at s.unit ≡ x ∷ []
-  last_of_unit last =
-      drop_more s.unit at d (omega arith)
-      ∙ ap₂ ◌∷◌ (sym read) (drop_all (at + 1) s.unit (omega arith))
-
-  pub next_time : at + 1 ≡ length s.unit → 0 < later → left_of strands at later ≡ x ∷ left_of strands 0 (later - 1)
-  next_time last more =
+-- what is left is the rest of the unit, and then its next time or the next strand
+module _ (strands : List Repetition) (s : Repetition) (at later : ℕ) (some : 0 < length strands) (is : s ≡ get_or strands 0 s) where
+  pub run_then_time : 0 < later → left_of strands at later ≡ drop at s.unit ++ left_of strands 0 (later - 1)
+  run_then_time more =
       let one_less : later ≡ suc (later - 1) = omega arith in
       left_of-first strands s at later some is
-      ∙ ap₂ (λ ys n. ys ++ (repeat n s.unit ++ graphemes (drop 1 strands))) (last_of_unit last) one_less
-      ∙ ap (λ ys. x ∷ ys) (append_assoc s.unit (repeat (later - 1) s.unit) (graphemes (drop 1 strands)) ∙ sym (left_of-first strands s 0 (later - 1) some is))
+      ∙ ap (λ n. drop at s.unit ++ (repeat n s.unit ++ graphemes (drop 1 strands))) one_less
+      ∙ ap (λ ys. drop at s.unit ++ ys) (append_assoc s.unit (repeat (later - 1) s.unit) (graphemes (drop 1 strands)) ∙ sym (left_of-first strands s 0 (later - 1) some is))
 
-  pub next_strand : at + 1 ≡ length s.unit → later ≡ 0 → left_of strands at later ≡ x ∷ graphemes (drop 1 strands)
-  next_strand last none =
+  pub run_then_strand : later ≡ 0 → left_of strands at later ≡ drop at s.unit ++ graphemes (drop 1 strands)
+  run_then_strand none =
       left_of-first strands s at later some is
-      ∙ ap₂ (λ ys n. ys ++ (repeat n s.unit ++ graphemes (drop 1 strands))) (last_of_unit last) none
+      ∙ ap (λ n. drop at s.unit ++ (repeat n s.unit ++ graphemes (drop 1 strands))) none
 
 -- all graphemes are those from the first place of the first strand on
 pub left_of-start : (strands : List Repetition) (s : Repetition) → 0 < length strands → s ≡ get_or strands 0 s → 0 < s.times →

@@ -4,7 +4,7 @@ use Rattle.std.proofs.lemmas.List.{drop-drop, drop-take, take-take, take_min, dr
 use Rattle.std.proofs.lemmas.Slice.{take-put_mid}
 use borrow.Rule.Slice.PartMut.{put_mid}
 use Rattle.std.proofs.Math.Seq.{take-append-add}
-use Rattle.std.specs.Prelude.{slice_range, slice_get, Some}
+use Rattle.std.specs.Prelude.{slice_range, slice_get}
 
 module _ {A : Type 0} where
   pub length-slice_range : (xs : List A) (a b : ℕ) → b ≤ length xs → length (slice_range xs a b) ≡ b - a
@@ -74,11 +74,11 @@ module _ {A : Type 0} where
       slice_range_within block start end at count ordered (omega arith) ∙ ap (λ xs. take count (drop at xs)) view
 
   -- the element at a place is the first of what is left there
-  pub slice_get-drop : (xs : List A) (k : ℕ) (x : A) (rest : List A) → drop k xs ≡ x ∷ rest → slice_get xs k ≡ Some x
-  slice_get-drop [] zero x rest e = cc
-  slice_get-drop [] (suc k) x rest e = cc
-  slice_get-drop (y ∷ xs) zero x rest e = let first : y ≡ x = cc in ap Some first
-  slice_get-drop (y ∷ xs) (suc k) x rest e = slice_get-drop xs k x rest e
+  pub slice_get_first : (xs : List A) (k : ℕ) → slice_get (drop k xs) 0 ≡ slice_get xs k
+  slice_get_first [] zero = refl
+  slice_get_first [] (suc k) = refl
+  slice_get_first (x ∷ xs) zero = refl
+  slice_get_first (x ∷ xs) (suc k) = slice_get_first xs k
 
   -- the first n are the first m and those after them
   pub take_split : (m n : ℕ) (xs : List A) → m ≤ n → take n xs ≡ take m xs ++ take (n - m) (drop m xs)

@@ -5,6 +5,7 @@ mod cut;
 mod graphemes;
 mod join;
 mod piece;
+mod place;
 mod search;
 mod strand;
 mod string;

@@ -5,7 +5,7 @@ ghost use Rattle.std.specs.List.{position_from, common_prefix_len};
 ghost use Rattle.std.specs.Ordering.{int_eq};
 ghost use Rattle.nfg_strand.specs.Strand.{graphemes};
 
-use crate::graphemes::Graphemes;
+use crate::place::Place;
 use crate::strand::Strand;
 
 /// The least place of `from..until` that holds `x`.
@@ -15,7 +15,7 @@ pub(crate) fn find(strands: &[Strand], from: u64, until: u64, x: i32) -> Option<
     ensures { result ≡ position_from (λ y. int_eq y x) from
         (slice_range (graphemes strands.now) from until) }
 {
-    let mut rest = Graphemes::from(strands, from);
+    let mut rest = Place::from(strands, from);
     let mut at = from;
     while at < until {
         let (seen, found) = rest.find_here(until - at, x);
@@ -44,8 +44,8 @@ pub(crate) fn common_front(
         (slice_range (graphemes strands.now) start (start + count))
         (slice_range (graphemes others.now) other_start (other_start + count)) }
 {
-    let mut rest = Graphemes::from(strands, start);
-    let mut other = Graphemes::from(others, other_start);
+    let mut rest = Place::from(strands, start);
+    let mut other = Place::from(others, other_start);
     let mut same = 0;
     while same < count {
         let (seen, common) = rest.common_here(&other, count - same);
@@ -64,7 +64,7 @@ pub(crate) fn copy(strands: &[Strand], start: u64, into: &mut [i32])
     requires { start + length into.old ≤ length (graphemes strands.now) }
     ensures { into.new ≡ slice_range (graphemes strands.now) start (start + length into.old) }
 {
-    let mut rest = Graphemes::from(strands, start);
+    let mut rest = Place::from(strands, start);
     let mut at = 0;
     while at < into.len() {
         let count = rest.copy_here(&mut into[at..]);

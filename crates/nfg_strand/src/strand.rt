@@ -7,7 +7,7 @@ ghost use Rattle.std.specs.Arc.{arc_value};
 ghost use Rattle.nfg_strand.specs.Strand.{graphemes_of, piece_of};
 
 use crate::piece::Piece;
-use nfg_block::Block;
+use nfg_block::{Block, Run};
 use std::alloc::AllocError;
 use std::marker::Model;
 use std::sync::Arc;
@@ -146,6 +146,14 @@ impl Strand {
         ensures { result ≡ slice_index_or self.now.unit at (pos 0) }
     {
         self.block.get(self.start + at)
+    }
+
+    /// The graphemes of the unit from place `at` on, one after another.
+    pub(crate) fn run(&self, at: usize) -> Run<'_>
+        requires { at ≤ length self.now.unit }
+        ensures { result ≡ drop at self.now.unit }
+    {
+        self.block.run(self.start + at, self.end)
     }
 
     /// The place of the first `x` among `count` graphemes of the unit, counted from place `at`.

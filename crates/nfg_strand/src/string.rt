@@ -8,6 +8,7 @@ ghost use Rattle.nfg_strand.specs.Pieces.{flat_piece, clipped, joined, repeat_pi
 
 use crate::graphemes::Graphemes;
 use crate::piece::Piece;
+use crate::place::Place;
 use crate::strand::Strand;
 use crate::{cut, join, search};
 use nfg_block::Block;
@@ -118,10 +119,7 @@ impl NString {
         requires { k < length self.now.graphemes }
         ensures { slice_get self.now.graphemes k ≡ Some result }
     {
-        match Graphemes::from(self.strands.as_slice(), k).next() {
-            Some(grapheme) => grapheme,
-            None => 0,
-        }
+        Place::from(self.strands.as_slice(), k).first()
     }
 
     /// The graphemes in order, and then `None`.

@@ -13,6 +13,7 @@ use Rattle.nfg_stream.specs.declared.error.LoadError.{LoadError}
 use Rattle.nfg_stream.specs.declared.error.LoadError.TheVariants.{Malformed, ClusterLong, RowFull, NoPortion, OutOfMemory}
 use Rattle.nfg_stream.specs.Load.{HasLearned, several, first_long, StopsAt, StopsSomewhere, HasMade}
 use Rattle.nfg_stream.specs.Numbering.{AreNumbered, AreClusters, HasNumber, IsCluster, IsRefused}
+use Rattle.nfg_stream.specs.Numbers.{ArePlain}
 use Rattle.nfg_stream.proofs.Learned.{HasLearned-same, HasLearned-several, IsSame-refl}
 
 pub Numbered-none : (known : Texts) (numbers : List ℤ) → numbers ≡ [] → AreNumbered [] known known numbers
@@ -84,12 +85,6 @@ made-answer clusters old new numbers (Ok made) short all graphemes pieces none =
 made-answer clusters old new numbers (Err error) short all graphemes pieces is =
     subst (λ e. HasMade clusters old new (Err e)) (sym is)
     (record { front = clusters; rest = []; parts = sym (append-nil clusters); learned = all.learned })
-
--- none is a longer cluster
-abbrev pub ArePlain : List ℤ → Type 0
-ArePlain [] = Unit {0}
-ArePlain (pos c ∷ ns) = ArePlain ns
-ArePlain (negsuc k ∷ ns) = ⊥
 
 -- where there is no longer cluster, each is a code point
 plain-counted : (count : ℕ) (numbers : List ℤ) → count ≡ 0 → AreCounted count numbers → ArePlain numbers

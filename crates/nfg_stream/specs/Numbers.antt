@@ -1,5 +1,5 @@
 -- Numbers in order, in 8 bits or in 32 (this project's own).
-use Rattle.std.specs.Prelude.{◌≡◌, ℕ, ◌<◌, nat_lt, Bool, true, List, [], length, ℤ, pos, negsuc}
+use Rattle.std.specs.Prelude.{⊤, ◌≡◌, ℕ, ◌<◌, nat_lt, Bool, true, List, [], ◌∷◌, length, ℤ, pos, negsuc}
 use Rattle.std.specs.List.{list_all}
 use Rattle.nfg_lanes.specs.Lanes.{is_narrow_grapheme}
 
@@ -16,3 +16,9 @@ pub record AreKept (narrow wide : List ℤ) : Type 0 where
 abbrev pub with_number : ℤ → ℤ → ℤ
 with_number number (pos c) = pos c
 with_number number (negsuc k) = number
+
+-- none is negative
+abbrev pub ArePlain : List ℤ → Type 0
+ArePlain [] = ⊤
+ArePlain (pos c ∷ ns) = ArePlain ns
+ArePlain (negsuc k ∷ ns) = ⊥

@@ -1,6 +1,6 @@
 //! Clusters become numbers, and these a string.
 ghost use Rattle.std.specs.Prelude.{◌≡◌, ◌<◌, ◌≤◌, ◌<ℤ◌, List, ℕ, pos, negsuc, true, None, Err, OnOk, IfOk, IfErr, length, map, set, slice_index_or};
-ghost use Rattle.std.specs.List.{list_all};
+ghost use Rattle.std.specs.List.{list_all, slice_range};
 ghost use Rattle.std.specs.Ordering.{int_eq};
 ghost use Rattle.nfg_lanes.specs.Lanes.{is_narrow_grapheme};
 ghost use Rattle.nfg_strand.specs.Pieces.{flat_piece};
@@ -9,7 +9,7 @@ ghost use Rattle.nfg_stream.specs.Collected.{kept_as, IsCounted, AreCounted};
 ghost use Rattle.nfg_stream.specs.Load.{HasMade, first_long};
 ghost use Rattle.nfg_stream.specs.Numbering.{IsCluster, AreClusters, AreInterned, Holds, HoldsSome};
 ghost use Rattle.nfg_stream.specs.Numbering.{AreNumbered, HasNumber};
-ghost use Rattle.nfg_stream.specs.Numbers.{AreKept, with_number};
+ghost use Rattle.nfg_stream.specs.Numbers.{AreKept, ArePlain, with_number};
 
 use crate::LoadError;
 use crate::collected::Collected;
@@ -237,14 +237,30 @@ fn number_each<T: Synthetics>(
         HasMade (map (kept_as longer.now) numbers.old)
         (T.seen pass.old) (T.seen pass.new) (Err error)) }
 {
-    'numbering: for k in 0..numbers.len() {
+    let mut k = next_longer(numbers, 0);
+    'numbering: while k < numbers.len() {
         let kept = at(numbers, k);
         match final_number(alloc, table, pass, longer, interned, kept) {
             Ok(n) => put(numbers, k, n),
             Err(error) => return Err(error),
         }
+        k = next_longer(numbers, k + 1);
     }
     Ok(())
+}
+
+/// The first place from `start` on that holds a longer cluster, or the length.
+fn next_longer(numbers: &[i32], start: usize) -> usize
+    requires { start ≤ length numbers.now }
+    ensures later { start ≤ result }
+    ensures within { result ≤ length numbers.now }
+    ensures plain { ArePlain (slice_range numbers.now start result) }
+{
+    let mut place = start;
+    'places: while place < numbers.len() && at(numbers, place) >= 0 {
+        place += 1;
+    }
+    place
 }
 
 fn at(numbers: &[i32], k: usize) -> i32

@@ -9,7 +9,8 @@ use nfg_lanes::widen;
 use std::alloc::{AllocError, Global};
 use std::marker::Model;
 
-/// How many code points become numbers at once.
+/// How many code points become numbers at once by way of a scratch. A run of fewer does without one,
+/// which costs more to clear than they do.
 const PART: usize = 256;
 
 /// Numbers in order. All of them stand in `narrow` while each fits 8 bits, and all in `wide` from the
@@ -71,6 +72,9 @@ impl Numbers {
         ensures appended { OnOk result (self.new ≡ self.old ++ map (λ c. pos c) run.now) }
         ensures unchanged { OnErr result (self.new ≡ self.old) }
     {
+        if let [code] = run {
+            return self.push(*code as i32);
+        }
         if self.wide.is_empty() {
             if are_ascii(run) {
                 append_narrow(&mut self.narrow, run)?;
@@ -167,6 +171,9 @@ fn append_wide(numbers: &mut Vec<i32>, run: &[u32]) -> Result<(), AllocError>
     ensures appended { OnOk result (numbers.new.items ≡ numbers.old.items ++ map (λ c. pos c) run.now) }
     ensures unchanged { OnErr result (numbers.new.items ≡ numbers.old.items) }
 {
+    if run.len() <= PART {
+        return append_few(numbers, run);
+    }
     let start = numbers.len();
     match append_parts(numbers, run) {
         Ok(()) => Ok(()),
@@ -175,6 +182,21 @@ fn append_wide(numbers: &mut Vec<i32>, run: &[u32]) -> Result<(), AllocError>
             Err(error)
         }
     }
+}
+
+/// Adds code points at the end, of which there are few.
+fn append_few(numbers: &mut Vec<i32>, run: &[u32]) -> Result<(), AllocError>
+    requires { IsText run.now }
+    ensures appended { OnOk result (numbers.new.items ≡ numbers.old.items ++ map (λ c. pos c) run.now) }
+    ensures unchanged { OnErr result (numbers.new.items ≡ numbers.old.items) }
+{
+    let start = numbers.len();
+    if run.len() >= usize::MAX - start {
+        return Err(AllocError);
+    }
+    numbers.resize(start + run.len(), 0)?;
+    copy_wide(run, &mut numbers[start..]);
+    Ok(())
 }
 
 /// Adds code points at the end, or a front of them where memory is wanting. They go through a scratch,

@@ -11,3 +11,4 @@ pub mod Tables
 pub mod Printed
 pub mod Lacking
 pub mod Answered
+pub mod InNfg

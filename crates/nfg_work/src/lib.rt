@@ -7,6 +7,7 @@ mod defining;
 mod evaluation;
 mod gate;
 mod hexadecimal;
+pub mod laws;
 mod naming;
 mod output;
 mod printing;

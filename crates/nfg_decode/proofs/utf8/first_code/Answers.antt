@@ -1,4 +1,4 @@
-use Rattle.std.proofs.Common.{◌≤◌, length, get_or, subst, sym, arith}
+use Rattle.std.proofs.Common.{◌≤◌, length, subst, sym, arith}
 use Rattle.nfg_decode.specs.Utf8.{IsFirst}
 use Rattle.nfg_decode.proofs.Utf8Sequences.{one_first, two_first, three_first, four_first}
 use Rattle.nfg_decode.proofs.utf8.first_code.Goals as goal

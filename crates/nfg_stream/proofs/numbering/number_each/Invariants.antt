@@ -1,4 +1,4 @@
-use Rattle.std.proofs.Common.{◌≡◌, length, take, drop, map}
+use Rattle.std.proofs.Common.{◌≡◌, ◌≤◌, ◌-◌, length, take, drop, map}
 use Rattle.nfg_syn.specs.Seen.{Keeps, SameCounts}
 use Rattle.nfg_stream.specs.Collected.{kept_as}
 use Rattle.nfg_stream.specs.Numbering.{AreNumbered, AreInterned}
@@ -6,6 +6,8 @@ use Rattle.nfg_stream.proofs.numbering.number_each.Given as goal
 
 abbrev pub invariant-numbering : goal.invariant-numbering
 invariant-numbering g l = record {
+  within : l.k ≤ length l.numbers;
+  count : length l.numbers ≡ length l.fn.numbers;
   table : g.T.Synthetics.is_of l.table l.pass;
   keeps : Keeps (g.T.Synthetics.seen l.fn.pass) (g.T.Synthetics.seen l.pass);
   counts : SameCounts (g.T.Synthetics.seen l.fn.pass) (g.T.Synthetics.seen l.pass);
@@ -14,3 +16,6 @@ invariant-numbering g l = record {
   interned : AreInterned l.longer (g.T.Synthetics.seen l.pass).known l.interned;
   rest : drop l.k l.numbers ≡ drop l.k l.fn.numbers;
 }
+
+abbrev pub decreases-numbering : goal.decreases-numbering
+decreases-numbering g l = length l.numbers - l.k

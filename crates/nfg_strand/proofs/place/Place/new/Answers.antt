@@ -2,8 +2,8 @@
 use Rattle.std.proofs.Common.{◌≡◌, ◌-◌, ◌<◌, length, ap, sym, ◌∙◌, arith, rules}
 use Rattle.nfg_strand.specs.Strand.{left_of}
 use Rattle.nfg_strand.proofs.Places.{left_of-none, graphemes-none, left_of-start}
-use Rattle.nfg_strand.proofs.graphemes.Graphemes.new.Goals as goal
-use Rattle.nfg_strand.proofs.graphemes.Graphemes.new.Goals.{then-is_empty, else-is_empty}
+use Rattle.nfg_strand.proofs.place.Place.new.Goals as goal
+use Rattle.nfg_strand.proofs.place.Place.new.Goals.{then-is_empty, else-is_empty}
 
 pub returns : goal.returns
 returns c =

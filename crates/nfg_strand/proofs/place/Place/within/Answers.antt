@@ -1,6 +1,6 @@
 -- the quotient says how often the unit is over, and the remainder the place in it
 use Rattle.nfg_strand.proofs.Places.{left_of-after}
-use Rattle.nfg_strand.proofs.graphemes.Graphemes.within.Goals as goal
+use Rattle.nfg_strand.proofs.place.Place.within.Goals as goal
 
 pub returns : goal.returns
 returns c =

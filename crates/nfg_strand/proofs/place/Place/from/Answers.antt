@@ -1,7 +1,7 @@
 -- each strand that is passed over is skipped whole
 use Rattle.std.proofs.Common.{◌∙◌, arith}
 use Rattle.nfg_strand.proofs.Places.{length-graphemes-past, drop-graphemes-next}
-use Rattle.nfg_strand.proofs.graphemes.Graphemes.from.Goals as goal
+use Rattle.nfg_strand.proofs.place.Place.from.Goals as goal
 
 pub loop-first-preserved : goal.loop-first-preserved
 loop-first-preserved c =

@@ -7,7 +7,7 @@ use Rattle.std.specs.Ordering.{int_eq}
 use Rattle.nfg_strand.specs.Strand.{graphemes}
 use Rattle.nfg_strand.proofs.Places.{left_of-first, IsPlaceIn-first}
 use Rattle.nfg_strand.proofs.Positions.{position_from-round}
-use Rattle.nfg_strand.proofs.graphemes.Graphemes.find_here.Goals as goal
+use Rattle.nfg_strand.proofs.place.Place.find_here.Goals as goal
 
 pub returns-clause-found : goal.returns-clause-found
 returns-clause-found c =

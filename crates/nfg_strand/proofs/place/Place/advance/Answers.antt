@@ -3,7 +3,7 @@ use Rattle.std.proofs.Common.{◌+◌, ◌-◌, ◌*◌, ◌<◌, length, drop, 
 use Rattle.std.proofs.lemmas.List.{take_rest}
 use Rattle.nfg_strand.specs.Strand.{graphemes}
 use Rattle.nfg_strand.proofs.Places.{drop-left_of, drop-left_of-past, length-left_of}
-use Rattle.nfg_strand.proofs.graphemes.Graphemes.advance.Goals as goal
+use Rattle.nfg_strand.proofs.place.Place.advance.Goals as goal
 
 pub from-requires : goal.from-requires
 from-requires c =

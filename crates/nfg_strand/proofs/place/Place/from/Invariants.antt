@@ -1,6 +1,6 @@
 use Rattle.std.proofs.Common.{◌≡◌, ◌≤◌, length, drop}
 use Rattle.nfg_strand.specs.Strand.{graphemes}
-use Rattle.nfg_strand.proofs.graphemes.Graphemes.from.Given as goal
+use Rattle.nfg_strand.proofs.place.Place.from.Given as goal
 
 -- what is left to skip lies in the strands that are left
 abbrev pub invariant-loop-first : goal.invariant-loop-first

@@ -1,0 +1,37 @@
+-- The laws of the evaluation: at every point of a script, each value is a list of graphemes (this project's own).
+use Rattle.std.specs.Prelude.{◌≡◌, ℕ, List, [], ◌∷◌, ◌++◌, Result, Ok, Err, IfOk}
+use Rattle.nfg_text.specs.Graphemes.{IsInNfg}
+use Rattle.nfg_text.specs.Operations.{part_of}
+use Rattle.nfg_script.specs.Script.{NumberedCommand}
+use Rattle.nfg_work.specs.declared.output.Cause.{Cause}
+use Rattle.nfg_work.specs.declared.output.FileRead.{FileRead}
+use Rattle.nfg_work.specs.Evaluation.{State, value_of, step, first_state, evaluate_from, evaluate}
+
+-- the state after some lines, or the cause for which the first of them that is refused is
+abbrev pub state_after : (places : ℕ) → State → List NumberedCommand → Result State Cause
+state_after places state [] = Ok state
+state_after places state (numbered ∷ lines) = elim (step places state numbered numbered.command) [
+  | Ok next ↦ state_after places next lines
+  | Err cause ↦ Err cause
+]
+
+-- a script is evaluated from the state after its first lines on
+abbrev pub EvaluationGoesOn : Type 0
+EvaluationGoesOn =
+    (places : ℕ) (reads : List FileRead) (lines more : List NumberedCommand)
+    → IfOk (state_after places (first_state reads) lines)
+    (λ state. evaluate (lines ++ more) reads places ≡ evaluate_from places state more)
+
+-- the value of every name is a list of graphemes
+abbrev pub AllInNfg : State → Type 0
+AllInNfg state = (name : ℕ) → IsInNfg (value_of state name).clusters
+
+-- so it is after every line of every script, whatever is read
+abbrev pub ValuesAreInNfg : Type 0
+ValuesAreInNfg =
+    (places : ℕ) (reads : List FileRead) (lines : List NumberedCommand)
+    → IfOk (state_after places (first_state reads) lines) AllInNfg
+
+-- a part of a list of graphemes is a list of graphemes
+abbrev pub PartIsInNfg : Type 0
+PartIsInNfg = (list : List (List ℕ)) (start count : ℕ) → IsInNfg list → IsInNfg (part_of list start count)

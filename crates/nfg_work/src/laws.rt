@@ -1,0 +1,14 @@
+//! The laws of the evaluation. Each function does nothing: its clauses are what holds.
+ghost use Rattle.nfg_work.specs.Laws.{EvaluationGoesOn, PartIsInNfg, ValuesAreInNfg};
+
+/// The value of every name, at every point of a script, is a list of graphemes.
+pub fn values_are_in_nfg()
+    ensures values { ValuesAreInNfg }
+    // the states that the first clause speaks of are those of the evaluation
+    ensures evaluation { EvaluationGoesOn }
+{}
+
+/// A part of a list of graphemes is a list of graphemes.
+pub fn part_is_in_nfg()
+    ensures { PartIsInNfg }
+{}
