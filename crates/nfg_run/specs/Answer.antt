@@ -18,6 +18,7 @@ use Rattle.nfg_run.specs.CommandLine.{script_path, usage_text, line_feed}
 abbrev pub default_places : ℕ
 default_places = 262144
 
+-- the text that tells a cause
 abbrev pub cause_text : Cause → List ℕ
 cause_text CannotRead = codes "cannot read"
 cause_text FileTooLong = codes "file too long"
@@ -29,6 +30,7 @@ cause_text (ClusterTooLong at) = codes "cluster too long at grapheme " ++ decima
 cause_text TableFull = codes "table full"
 cause_text OutputTooLong = codes "output too long"
 
+-- the status of a run that a line of this cause ends
 abbrev pub cause_status : Cause → Status
 cause_status CannotRead = ReadFault
 cause_status _ = Refused
@@ -44,16 +46,19 @@ answer_output bytes None = record { status = Done; bytes = bytes }
 answer_output bytes (Some refused) =
     record { status = cause_status refused.cause; bytes = bytes ++ refused_text refused }
 
+-- the answer to the commands of a script, or to its refusal
 abbrev pub answer_script : Result (List NumberedCommand) ScriptError → List FileRead → Answer
 answer_script (Err refusal) reads = record { status = Bad; bytes = codes "script: bad" ++ line_feed ∷ [] }
 answer_script (Ok script) reads =
     let output = evaluate script reads default_places in answer_output output.bytes output.refused
 
+-- the answer to a script's bytes, or to none where they can't be read
 abbrev pub answer_bytes : Option (List ℕ) → List FileRead → Answer
 answer_bytes None reads =
     record { status = ReadFault; bytes = codes "script: cannot read" ++ line_feed ∷ [] }
 answer_bytes (Some bytes) reads = answer_script (parse bytes) reads
 
+-- the answer to the script's path, or to none where the words aren't lawful
 abbrev pub answer_path : Option (List ℕ) → Option (List ℕ) → List FileRead → Answer
 answer_path None script reads = record { status = Bad; bytes = usage_text }
 answer_path (Some path) script reads = answer_bytes script reads

@@ -44,11 +44,12 @@ AreLoadsRead contents earlier (path ∷ paths) (Bytes bytes ∷ reads) =
     HasFile contents path (λ file. bytes ≡ file) × (is_over_limit earlier (length bytes) ≡ false)
     × AreLoadsRead contents (earlier + length bytes) paths reads
 
--- the paths that a script loads, and none where it is refused or can't be read
+-- the paths that a script loads, and none where it is refused
 abbrev pub accepted_paths : Result (List NumberedCommand) ScriptError → List (List ℕ)
 accepted_paths (Err refusal) = []
 accepted_paths (Ok script) = load_paths script
 
+-- the paths that the script of these bytes loads, and none where it can't be read
 abbrev pub paths_of : Option (List ℕ) → List (List ℕ)
 paths_of None = []
 paths_of (Some bytes) = accepted_paths (parse bytes)
@@ -67,11 +68,12 @@ failed_load (path ∷ paths) (Failed ∷ reads) = Some path
 failed_load (path ∷ paths) (TooLong ∷ reads) = failed_load paths reads
 failed_load (path ∷ paths) (Bytes bytes ∷ reads) = failed_load paths reads
 
--- the path of the read that failed, where one did
+-- where the script has this path: its path where it can't be read, else that of the load that failed
 abbrev pub failed_read : List ℕ → Option (List ℕ) → List FileRead → Option (List ℕ)
 failed_read path None reads = Some path
 failed_read path (Some bytes) reads = failed_load (paths_of (Some bytes)) reads
 
+-- the path of the read that failed, where one did; words that aren't lawful read nothing
 abbrev pub failed_path : Option (List ℕ) → Option (List ℕ) → List FileRead → Option (List ℕ)
 failed_path None script reads = None
 failed_path (Some path) script reads = failed_read path script reads
