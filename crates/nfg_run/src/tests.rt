@@ -5,6 +5,7 @@ use crate::{OpenGate, Status, Words, run};
 use nfg_io::{MemoryFiles, MemorySink};
 use std::alloc::{AllocError, Global};
 use std::marker::{Send, Sync};
+use std::process::Abort;
 use std::test::Fail;
 use std::thread::Threads;
 
@@ -73,6 +74,22 @@ fn outcome<R: Threads + Sync>(
     out.fail_at(outside.failing_write)?;
     let status = run(rt, alloc, &words, &mut files, &mut out, &OpenGate);
     Ok((status, Vec::from_slice(alloc, out.taken())?))
+}
+
+/// The run gives this, whether a call takes or gives many bytes or one.
+fn check_run<R: Threads + Sync + Abort>(
+    rt: &R,
+    alloc: Global,
+    found: Found,
+    wanted_status: Status,
+    wanted: &[u8],
+) -> Result<(), Fail> {
+    for outside in [SOUND, ONE_BYTE] {
+        let (status, taken) = outcome(rt, alloc, found, outside)?;
+        assert!(rt; status == wanted_status);
+        assert!(rt; taken.as_slice() == wanted);
+    }
+    Ok(())
 }
 
 #[test]
@@ -185,9 +202,7 @@ fn the_refused_line_is_told(rt: HostRuntime) -> Result<(), Fail> {
             g,
             ..over(script.as_bytes(), f)
         };
-        let (status, taken) = outcome(&rt, rt.alloc(), found, SOUND)?;
-        assert!(rt; status == Status::Refused);
-        assert!(rt; taken.as_slice() == wanted.as_bytes());
+        check_run(&rt, rt.alloc(), found, Status::Refused, wanted.as_bytes())?;
     }
     Ok(())
 }
@@ -195,10 +210,8 @@ fn the_refused_line_is_told(rt: HostRuntime) -> Result<(), Fail> {
 #[test]
 fn put_writes_the_bytes_and_nothing_else(rt: HostRuntime) -> Result<(), Fail> {
     let script = b"text a E9 D A\nput a utf8\nput a utf16\nput a latin1\n";
-    let (status, taken) = outcome(&rt, rt.alloc(), over(script, b""), SOUND)?;
-    assert!(rt; status == Status::Done);
-    assert!(rt; taken.as_slice() == b"\xc3\xa9\r\n\xfe\xff\x00\xe9\x00\r\x00\n\xe9\r\n".as_slice());
-    Ok(())
+    let wanted = b"\xc3\xa9\r\n\xfe\xff\x00\xe9\x00\r\x00\n\xe9\r\n";
+    check_run(&rt, rt.alloc(), over(script, b""), Status::Done, wanted)
 }
 
 #[test]
