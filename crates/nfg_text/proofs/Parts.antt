@@ -5,8 +5,9 @@ use Rattle.std.proofs.lemmas.List.Elements.{Contains-append_right}
 use Rattle.unicode_segmentation.specs.Grapheme.{is_grapheme_break}
 use Rattle.unicode_segmentation.specs.Segments.{Rule, cut}
 use Rattle.unicode_normalization.specs.Forms.{nfc}
-use Rattle.nfg_text.specs.Graphemes.{clusters, ends_from}
-use Rattle.nfg_text.specs.Laws.{IsAtBreak, ClustersOfParts, PartsAreInNfg}
+use Rattle.unicode_normalization.proofs.FormsLemmas.{nfc_idem}
+use Rattle.nfg_text.specs.Graphemes.{clusters, graphemes_of, ends_from}
+use Rattle.nfg_text.specs.Laws.{IsAtBreak, ClustersOfParts, GraphemesAreInNfg, PartsAreInNfg}
 use Rattle.nfg_text.specs.Text.{text_of}
 use Rattle.nfg_text.proofs.AtBreak.{clusters_at_break}
 use Rattle.nfg_text.proofs.Closure.{nfc_at_break}
@@ -107,3 +108,6 @@ parts_are_in_nfg a b lawful =
     let parts = nfc_at_break (text_of a) (text_of b) at.1 (ap nfc (sym at.0) ∙ form ∙ at.0) in
     let pieces = clusters_of_parts t a b own in
     (sym (ap clusters parts.0 ∙ pieces.0), sym (ap clusters parts.1 ∙ pieces.1))
+
+pub graphemes_are_in_nfg : GraphemesAreInNfg
+graphemes_are_in_nfg t = sym (ap graphemes_of (graphemes_spell_nfc t) ∙ ap clusters (nfc_idem t))

@@ -10,7 +10,7 @@ pub use Rattle.nfg_text.proofs.Equivalence.{clusters_spell_text, graphemes_spell
 pub use Rattle.nfg_text.proofs.KeptFacts.{composites_keep_breaks}
 pub use Rattle.nfg_text.proofs.Memories.{memories_cut_alike}
 pub use Rattle.nfg_text.proofs.NotEmpty.{nfc-nil, nfc_is_some}
-pub use Rattle.nfg_text.proofs.Parts.{clusters_of_parts, parts_are_in_nfg}
+pub use Rattle.nfg_text.proofs.Parts.{graphemes_are_in_nfg, clusters_of_parts, parts_are_in_nfg}
 pub use Rattle.nfg_text.proofs.PlainFacts.{plain_stands_apart, line_feed_is_not_plain}
 pub use Rattle.nfg_text.proofs.PlainRuns.{plain_pairs_break, plain_breaks_before_line_feed, graphemes_at_plain, plain_runs_are_singles}
 pub use Rattle.nfg_text.proofs.PlainTable.{printable_ascii_is_plain}

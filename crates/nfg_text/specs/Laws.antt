@@ -73,6 +73,10 @@ ClustersOfParts =
     (t : List ℕ) (a b : List (List ℕ)) → clusters t ≡ a ++ b
     → (clusters (text_of a) ≡ a) × (clusters (text_of b) ≡ b)
 
+-- the graphemes of a text are a list of graphemes
+abbrev pub GraphemesAreInNfg : Type 0
+GraphemesAreInNfg = (t : List ℕ) → IsInNfg (graphemes_of t)
+
 -- both parts of a list of graphemes are lists of graphemes
 abbrev pub PartsAreInNfg : Type 0
 PartsAreInNfg = (a b : List (List ℕ)) → IsInNfg (a ++ b) → IsInNfg a × IsInNfg b

@@ -1,7 +1,7 @@
 //! The facts on the tables of Unicode and the laws of clusters and normal forms. Each function does nothing: its
 //! clauses are what holds.
 ghost use Rattle.nfg_text.specs.Facts.{ConjunctExtendersExtend, LinkersExtend, LinkersAreNoControls, PictographsAreNoControls, ConsonantsAreNoControls, MarksExtend, ControlsStandAlone, CompositesStartWithStarters, StartersStartWithStarters, CompositesKeepBreaks, AsciiStandsAlone, AsciiPairsBreak, AsciiCompositesAreOrdinary, PlainStandsApart, PrintableAsciiIsPlain};
-ghost use Rattle.nfg_text.specs.Laws.{ClustersAtBreak, ClustersWhereBroken, ClustersAtLineFeed, NfcAtLineFeed, NfcAtBreak, NfdOfParts, GraphemesDecideEquivalence, GraphemesSpellNfc, ClustersSpellText, GraphemesAtStable, StableLenIsGreatest, GraphemesAtStableLen, ClustersOfParts, PartsAreInNfg, NfcAtSafeStart, SafeStartsStay, ClustersAtSafeStart, GraphemesAtSafeStart, SafeStartsDecide, AllSafeStartsDecide, MemoriesCutAlike, ClustersOfUtf8, GraphemesAtPlain, PlainRunsAreSingles, PlainPairsBreak, PlainBreaksBeforeLineFeed, NfcOfText, PartsOfText};
+ghost use Rattle.nfg_text.specs.Laws.{ClustersAtBreak, ClustersWhereBroken, ClustersAtLineFeed, NfcAtLineFeed, NfcAtBreak, NfdOfParts, GraphemesDecideEquivalence, GraphemesSpellNfc, ClustersSpellText, GraphemesAtStable, StableLenIsGreatest, GraphemesAtStableLen, ClustersOfParts, GraphemesAreInNfg, PartsAreInNfg, NfcAtSafeStart, SafeStartsStay, ClustersAtSafeStart, GraphemesAtSafeStart, SafeStartsDecide, AllSafeStartsDecide, MemoriesCutAlike, ClustersOfUtf8, GraphemesAtPlain, PlainRunsAreSingles, PlainPairsBreak, PlainBreaksBeforeLineFeed, NfcOfText, PartsOfText};
 
 /// Where a text is cut at the end of a cluster, its clusters are those of both parts (UAX #29).
 pub fn clusters_at_break()
@@ -45,8 +45,9 @@ pub fn line_feeds_stand_alone()
     ensures form { NfcAtLineFeed }
 {}
 
-/// What stands at the front or at the back of a list of graphemes is a list of graphemes.
+/// The graphemes of a text are a list of graphemes, and so is what stands at the front or at the back of such a list.
 pub fn parts_are_in_nfg()
+    ensures of_text { GraphemesAreInNfg }
     ensures clusters { ClustersOfParts }
     ensures graphemes { PartsAreInNfg }
 {}

@@ -1,8 +1,7 @@
 -- Each value is a list of graphemes.
 use Rattle.std.proofs.Common.{◌≡◌, ℕ, zero, suc, ◌+◌, Bool, true, false, nat_lt, List, [], ◌∷◌, ◌++◌, length, take, drop, slice_index_or, Option, Some, None, Result, Ok, Err, IfOk, if◌then◌else◌, refl, sym, ap, ◌∙◌, subst, take-append-drop}
-use Rattle.unicode_normalization.proofs.FormsLemmas.{nfc_idem}
-use Rattle.nfg_text.specs.Graphemes.{clusters, graphemes_of, IsInNfg}
-use Rattle.nfg_text.proofs.Proved.{graphemes_spell_nfc, parts_are_in_nfg}
+use Rattle.nfg_text.specs.Graphemes.{graphemes_of, IsInNfg}
+use Rattle.nfg_text.proofs.Proved.{graphemes_are_in_nfg, parts_are_in_nfg}
 use Rattle.nfg_decode.specs.declared.encoding.Encoding.{Encoding}
 use Rattle.nfg_decode.specs.Decoded.{Decoded}
 use Rattle.nfg_decode.specs.Encoding.{decode}
@@ -18,9 +17,6 @@ use Rattle.nfg_work.specs.declared.output.Output.{Output}
 use Rattle.nfg_work.specs.Values.{Value, no_value, flat, part}
 use Rattle.nfg_work.specs.Evaluation.{State, cost_limit, output_limit, value_of, used_with, define, with_clusters, define_new, define_decoded, define_read, load, define_part, print, put, step, evaluate_from, evaluate, first_state}
 use Rattle.nfg_work.specs.Laws.{state_after, AllInNfg, EvaluationGoesOn, ValuesAreInNfg, PartIsInNfg}
-
-graphemes_are_in_nfg : (t : List ℕ) → IsInNfg (graphemes_of t)
-graphemes_are_in_nfg t = sym (ap graphemes_of (graphemes_spell_nfc t) ∙ ap clusters (nfc_idem t))
 
 nothing_is_in_nfg : IsInNfg []
 nothing_is_in_nfg = (parts_are_in_nfg [] (graphemes_of []) (graphemes_are_in_nfg [])).0
