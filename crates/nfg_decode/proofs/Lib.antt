@@ -1,6 +1,7 @@
 pub mod Examples
 pub mod LawLemmas
 pub mod MarkLemmas
+pub mod LoneLemmas
 pub mod PrefixLemmas
 pub mod ReadingLemmas
 pub mod ReadsLemmas

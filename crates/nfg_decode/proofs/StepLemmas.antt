@@ -17,7 +17,7 @@ use Rattle.nfg_decode.specs.declared.step.Step.TheVariants.{Whole, Held, Other}
 use Rattle.nfg_decode.specs.Encoding.{decode}
 use Rattle.nfg_decode.specs.Reads.{IsUnfinished}
 use Rattle.nfg_decode.specs.Reading.{as_encoding, ReadsOn}
-use Rattle.nfg_decode.specs.State.{IsOpen, IsWhole, HasAdvanced, StepsOn, open_next}
+use Rattle.nfg_decode.specs.State.{IsOpen, HasAdvanced, StepsOn, open_next}
 use Rattle.nfg_decode.specs.Step.{StepsTo}
 use Rattle.nfg_decode.specs.Tail.{bytes_of}
 use Rattle.nfg_decode.proofs.StateLemmas.{between, ready_by_form, still_open}
@@ -153,8 +153,3 @@ module _ (s : State) (form : Form) (piece : List ℕ) (is : s.form ≡ Some form
         subst (λ k. HasAdvanced e bytes piece old old (open_next s k tail)) (omega arith) (read_step e bytes old old 0 tail reads h),
   )
   steps_on Other to = tt
-
-  -- where nothing is held, and the byte is a whole sequence
-  pub lone_whole : s.tail ≡ Empty → (code : Option ℕ) → IfSome code (λ c. decode (as_encoding form) (get_or piece 0 0 ∷ []) ≡ Ok (c ∷ [])) → IfSome code (IsWhole s piece)
-  lone_whole none None to = tt
-  lone_whole none (Some c) to = (none, steps_on (Whole c) (subst (λ t. decode (as_encoding form) (bytes_of t ++ get_or piece 0 0 ∷ []) ≡ Ok (c ∷ [])) (sym none) to))

@@ -1,15 +1,16 @@
 -- What a stream knows of the bytes that it has read (this project's own).
-use Rattle.std.specs.Prelude.{◌≡◌, ⊤, ℕ, ◌+◌, List, [], ◌∷◌, ◌++◌, length, drop, None, Ok, MatchOption}
+use Rattle.std.specs.Prelude.{◌≡◌, ⊤, ℕ, ◌+◌, List, [], ◌∷◌, ◌++◌, length, drop, Option, None, Some, Ok, MatchOption}
 use Rattle.nfg_decode.specs.declared.encoding.Encoding.{Encoding}
-use Rattle.nfg_decode.specs.declared.encoding.Encoding.TheVariants.{Utf16}
+use Rattle.nfg_decode.specs.declared.encoding.Encoding.TheVariants as encodings
 use Rattle.nfg_decode.specs.declared.reading.Form.{Form}
+use Rattle.nfg_decode.specs.declared.reading.Form.TheVariants.{Utf8, Utf16, Latin1}
 use Rattle.nfg_decode.specs.declared.mark.Opening.{Opening}
 use Rattle.nfg_decode.specs.declared.state.State.{State}
 use Rattle.nfg_decode.specs.declared.state.Next.{Next}
 use Rattle.nfg_decode.specs.declared.step.Step.{Step}
 use Rattle.nfg_decode.specs.declared.step.Step.TheVariants.{Whole, Held, Other}
 use Rattle.nfg_decode.specs.declared.tail.Tail.{Tail}
-use Rattle.nfg_decode.specs.declared.tail.Tail.TheVariants.{Empty}
+use Rattle.nfg_decode.specs.declared.tail.Tail.TheVariants.{Empty, One, Two, Three}
 use Rattle.nfg_decode.specs.Encoding.{decode, decoded_prefix, IsAlreadyMalformed}
 use Rattle.nfg_decode.specs.Reads.{IsUnfinished}
 use Rattle.nfg_decode.specs.Reading.{as_encoding}
@@ -24,7 +25,7 @@ GivesNext e bytes piece old new =
 
 -- the mark is still to come: all of the bytes are held
 pub record IsBeforeMark (s : State) (e : Encoding) (bytes : List ℕ) : Type 0 where
-  pub encoding : e ≡ Utf16
+  pub encoding : e ≡ encodings.Utf16
   pub held : bytes ≡ bytes_of s.tail
   pub mark : MayBeMark (bytes_of s.tail)
   pub settled : s.settled ≡ 0
@@ -70,6 +71,21 @@ StepsOn s piece (Held tail) = (length piece ≡ 1) × (length (bytes_of tail) �
     → HasAdvanced e bytes piece old old (open_next s s.settled tail))
 StepsOn s piece Other = ⊤
 
--- no bytes are held, and the piece is one byte and a whole sequence
-abbrev pub IsWhole : State → List ℕ → ℕ → Type 0
-IsWhole s piece code = (s.tail ≡ Empty) × StepsOn s piece (Whole code)
+-- a byte below this number is a whole sequence, that of the code point of its number
+abbrev pub whole_limit : Form → ℕ
+whole_limit Utf8 = 128
+whole_limit (Utf16 order) = 0
+whole_limit Latin1 = 256
+
+-- that number where no bytes are held, and none where some are or the mark is to come
+abbrev pub lone_limit : Option Form → Tail → ℕ
+lone_limit (Some form) Empty = whole_limit form
+lone_limit (Some form) (One x) = 0
+lone_limit (Some form) (Two x y) = 0
+lone_limit (Some form) (Three x y z) = 0
+lone_limit None tail = 0
+
+-- the same where nothing was malformed, and 0 where a place was
+abbrev pub limit_of : Option ℕ → Option Form → Tail → ℕ
+limit_of None form tail = lone_limit form tail
+limit_of (Some at) form tail = 0

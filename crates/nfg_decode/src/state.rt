@@ -1,15 +1,15 @@
 //! What a stream knows of the bytes that it has read.
 
-ghost use Rattle.std.specs.Prelude.{◌≡◌, ℕ, ◌+◌, ◌^◌, ◌≤◌, List, [], length, IfOk, IfSome, OnErr};
+ghost use Rattle.std.specs.Prelude.{◌≡◌, ℕ, ◌+◌, ◌^◌, ◌≤◌, List, [], length, IfOk, OnErr};
 ghost use Rattle.nfg_decode.specs.declared.encoding.Encoding.{Encoding};
 ghost use Rattle.nfg_decode.specs.Reads.{Grew};
-ghost use Rattle.nfg_decode.specs.State.{IsOpen, IsReady, HasAdvanced, StepsOn, IsWhole};
+ghost use Rattle.nfg_decode.specs.State.{IsOpen, IsReady, HasAdvanced, StepsOn, lone_limit, whole_limit};
 ghost use Rattle.nfg_decode.specs.Tail.{bytes_of};
 
 use crate::encoding::Encoding;
 use crate::mark::{Opening, look_for_mark};
 use crate::reading::{Form, read_on};
-use crate::step::{Step, code_of_byte, next_step};
+use crate::step::{Step, next_step};
 use crate::tail::Tail;
 use crate::utf16::ByteOrder;
 use nfg_text::CodeList;
@@ -68,21 +68,30 @@ fn opening_of(state: State, piece: &[u8]) -> Opening
     }
 }
 
-/// The code point of a piece that is one byte and a whole sequence, where no bytes are held.
+/// Below this number a byte is a whole sequence, that of the code point of its number.
 #[inline(always)]
-pub(crate) fn lone_code(state: &State, piece: &[u8]) -> Option<u32>
-    ensures { IfSome result (IsWhole state.now piece.now) }
+fn whole_limit(form: Form) -> u32
+    ensures { result ≡ whole_limit form }
 {
-    let Tail::Empty = state.tail else {
-        return None;
-    };
-    let Some(form) = state.form else {
-        return None;
-    };
-    let [byte] = piece else {
-        return None;
-    };
-    code_of_byte(form, *byte)
+    match form {
+        Form::Utf8 => 128,
+        Form::Utf16(_) => 0,
+        Form::Latin1 => 256,
+    }
+}
+
+/// The same where no bytes are held, and 0 where some are or the mark is to come.
+#[inline(always)]
+pub(crate) fn lone_limit(form: Option<Form>, tail: Tail) -> u32
+    ensures { result ≡ lone_limit form tail }
+{
+    match tail {
+        Tail::Empty => match form {
+            Some(form) => whole_limit(form),
+            None => 0,
+        },
+        _ => 0,
+    }
 }
 
 /// What a piece of one byte makes of the held bytes. It is not said of longer pieces, or before the mark.

@@ -1,15 +1,14 @@
 //! What one byte makes of the unfinished sequence before it.
 
-ghost use Rattle.std.specs.Prelude.{◌≡◌, [], ◌∷◌, ◌++◌, Ok, IfSome};
+ghost use Rattle.std.specs.Prelude.{[], ◌∷◌, ◌++◌};
 ghost use Rattle.nfg_decode.specs.declared.encoding.Encoding.TheVariants.{Latin1};
-ghost use Rattle.nfg_decode.specs.Encoding.{decode};
 ghost use Rattle.nfg_decode.specs.Reading.{as_encoding};
 ghost use Rattle.nfg_decode.specs.Step.{StepsTo};
 ghost use Rattle.nfg_decode.specs.Tail.{bytes_of};
 
 use crate::reading::Form;
 use crate::tail::Tail;
-use crate::utf8::{ascii_code, step_utf8};
+use crate::utf8::step_utf8;
 use crate::utf16::step_utf16;
 
 /// What the held bytes and one more are. It is not said of bytes that are malformed, or that no
@@ -33,18 +32,6 @@ pub(crate) enum Taken {
     OutOfMemory,
     /// It is neither, and nothing has changed.
     Nothing,
-}
-
-/// The code point of a byte that is a whole sequence.
-#[inline(always)]
-pub(crate) fn code_of_byte(form: Form, byte: u8) -> Option<u32>
-    ensures { IfSome result (λ code. decode (as_encoding form) (byte ∷ []) ≡ Ok (code ∷ [])) }
-{
-    match form {
-        Form::Utf8 => ascii_code(byte),
-        Form::Utf16(_) => None,
-        Form::Latin1 => Some(u32::from(byte)),
-    }
 }
 
 #[inline(always)]

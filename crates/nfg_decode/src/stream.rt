@@ -3,13 +3,13 @@
 ghost use Rattle.std.specs.Prelude.{◌≡◌, ⊤, ℕ, ◌+◌, ◌^◌, ◌≤◌, List, [], ◌++◌, length, Ok, Err, OnOk, IfSome, IsErrOf};
 ghost use Rattle.nfg_decode.specs.declared.encoding.Encoding.{Encoding};
 ghost use Rattle.nfg_decode.specs.Encoding.{decode, decoded_prefix, IsAlreadyMalformed};
-ghost use Rattle.nfg_decode.specs.State.{GivesNext};
+ghost use Rattle.nfg_decode.specs.State.{GivesNext, limit_of};
 ghost use Rattle.nfg_decode.specs.Step.{MatchTaken};
 ghost use Rattle.nfg_decode.specs.Tail.{bytes_of};
 ghost use Rattle.nfg_decode.specs.Answer.{UnlessOutOfMemory, answer_of};
 
 use crate::encoding::{DecodeError, Encoding};
-use crate::state::{State, advance, first_state, lone_code, step_of};
+use crate::state::{State, advance, first_state, lone_limit, step_of};
 use crate::step::{Step, Taken};
 use crate::tail::{Tail, tail_len};
 use nfg_text::CodeList;
@@ -22,6 +22,9 @@ pub struct ByteStream {
     state: State,
     malformed: Option<u64>,
     fed: u64,
+    // below this number a next byte is a whole sequence alone; 0 where that isn't known
+    lone_limit: u32,
+    ghost lone: { lone_limit ≤ limit_of malformed state.form state.tail },
     ghost in_order: { state.settled + length (bytes_of state.tail) ≤ fed },
 }
 
@@ -34,10 +37,12 @@ impl ByteStream {
         ensures read { HasRead result encoding [] }
         ensures count { fed_count result ≡ 0 }
     {
+        let state = first_state(encoding);
         ByteStream {
-            state: first_state(encoding),
+            state,
             malformed: None,
             fed: 0,
+            lone_limit: lone_limit(state.form, state.tail),
         }
     }
 
@@ -87,9 +92,14 @@ impl ByteStream {
     fn lone(&self, piece: &[u8]) -> Option<u32>
         ensures { IfSome result (IsLone self.now piece.now) }
     {
-        match self.malformed {
-            Some(_) => None,
-            None => lone_code(&self.state, piece),
+        let [byte] = piece else {
+            return None;
+        };
+        let code = u32::from(*byte);
+        if code < self.lone_limit {
+            Some(code)
+        } else {
+            None
         }
     }
 
@@ -155,11 +165,13 @@ impl ByteStream {
                 self.fed += 1;
                 self.state.tail = Tail::Empty;
                 self.state.settled = settled;
+                self.lone_limit = lone_limit(self.state.form, self.state.tail);
                 Taken::All
             }
             Step::Held(tail) => {
                 self.fed += 1;
                 self.state.tail = tail;
+                self.lone_limit = 0;
                 Taken::All
             }
             Step::Other => Taken::Nothing,
@@ -191,8 +203,14 @@ impl ByteStream {
         self.state = next.state;
         self.malformed = next.malformed;
         match next.malformed {
-            Some(at) => Err(DecodeError::Malformed { at }),
-            None => Ok(()),
+            Some(at) => {
+                self.lone_limit = 0;
+                Err(DecodeError::Malformed { at })
+            }
+            None => {
+                self.lone_limit = lone_limit(next.state.form, next.state.tail);
+                Ok(())
+            }
         }
     }
 

@@ -261,14 +261,6 @@ fn continues(b: u8) -> bool
     0x80 <= b && b <= 0xBF
 }
 
-/// The code point of a byte of ASCII.
-#[inline(always)]
-pub(crate) fn ascii_code(a: u8) -> Option<u32>
-    ensures { IfSome result (λ code. decode Utf8 (a ∷ []) ≡ Ok (code ∷ [])) }
-{
-    if a < 0x80 { Some(u32::from(a)) } else { None }
-}
-
 #[inline(always)]
 fn step_one(a: u8) -> Step
     ensures { StepsTo Utf8 (a ∷ []) result }
