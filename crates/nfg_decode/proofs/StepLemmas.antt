@@ -3,7 +3,7 @@ use Rattle.std.proofs.Common.{◌≡◌, ℕ, ◌+◌, ◌-◌, ◌*◌, ◌/◌
 use Rattle.std.proofs.lemmas.Bool.{cases_lt}
 use Rattle.std.proofs.lemmas.List.{append-nil, take_all, drop_all}
 use Rattle.std.proofs.lemmas.Str.{IsUtf8-encode}
-use Rattle.std.specs.Prelude.{Option, Some, None, Ok, IfSome}
+use Rattle.std.specs.Prelude.{Some, None, Ok}
 use Rattle.simdutf8.proofs.Chars.{least_is, most_is}
 use lib.Utf8.{scalar, encode, low_scalar}
 use Rattle.nfg_decode.specs.declared.encoding.Encoding.{Encoding}

@@ -1,4 +1,4 @@
-use Rattle.std.proofs.Common.{◌++◌, ◌-◌, ◌∙◌, ℕ, pos, length, take, drop, map, arith, append_assoc, ap, sym, subst}
+use Rattle.std.proofs.Common.{◌++◌, ◌-◌, ◌∙◌, pos, length, take, drop, map, arith, append_assoc, ap, sym, subst}
 use Rattle.std.proofs.lemmas.List.{length-take, map-append}
 use Rattle.nfg_text.specs.Text.{IsText}
 use Rattle.nfg_text.proofs.Proved.{parts_of_text}

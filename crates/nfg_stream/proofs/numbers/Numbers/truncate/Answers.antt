@@ -1,4 +1,4 @@
-use Rattle.std.proofs.Common.{◌∙◌, ap₂, sym, subst, take}
+use Rattle.std.proofs.Common.{sym, subst, take}
 use Rattle.nfg_stream.specs.Numbers.{AreKept}
 use Rattle.nfg_stream.proofs.NumbersLemmas.{AreKept-take}
 use Rattle.nfg_stream.proofs.numbers.Numbers.truncate.Goals as goal
