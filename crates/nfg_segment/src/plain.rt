@@ -55,10 +55,31 @@ fn lines_in_block(text: &[u32], from: usize) -> usize
     ensures plain { ArePlainLines (take result text.now) }
 {
     let end = from + BLOCK;
-    if are_ascii_lines(&text[from..end]) {
+    if are_lines_at_once(script_before(text, from), &text[from..end]) {
         return end;
     }
     lines_up_to(text, from, end)
+}
+
+/// The code point before the place, which says in what script the text goes on. At the start it is a
+/// space.
+#[inline(always)]
+fn script_before(text: &[u32], from: usize) -> u32
+    requires { from ≤ length text.now }
+{
+    if from > 0 { text[from - 1] } else { 0x20 }
+}
+
+/// Whether every code point is of plain lines, where vectors may soon tell: behind ASCII, and behind a
+/// syllable of Hangul. It may be false of any block.
+#[inline(always)]
+fn are_lines_at_once(before: u32, block: &[u32]) -> bool
+    ensures { IsTrue result → ArePlainLines block.now }
+{
+    if before < 0x80 {
+        return are_ascii_lines(block);
+    }
+    is_syllable(before) && are_korean_lines(block)
 }
 
 /// How many code points of plain lines the text begins with, of which `from` are known, as far as
@@ -129,4 +150,30 @@ fn is_of_ascii_lines(c: u32) -> bool
     ensures { IsTrue result → is_of_plain_lines c ≡ true }
 {
     (0x20 <= c) & (c <= 0x7E) | (c == 0xA)
+}
+
+/// Whether every code point is printable ASCII, a line feed or a syllable of Hangul, by vectors as well.
+#[inline(always)]
+fn are_korean_lines(block: &[u32]) -> bool
+    ensures { IsTrue result → ArePlainLines block.now }
+{
+    let mut all = true;
+    for c in block {
+        all &= is_of_korean_lines(*c);
+    }
+    all
+}
+
+#[inline(always)]
+fn is_of_korean_lines(c: u32) -> bool
+    ensures { IsTrue result → is_of_plain_lines c ≡ true }
+{
+    is_of_ascii_lines(c) | is_syllable(c)
+}
+
+#[inline(always)]
+fn is_syllable(c: u32) -> bool
+    ensures { IsTrue result → is_of_plain_lines c ≡ true }
+{
+    (0xAC00 <= c) & (c <= 0xD7A3)
 }

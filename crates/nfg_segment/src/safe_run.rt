@@ -143,14 +143,13 @@ fn is_some(open_cluster: &OpenCluster, text: &[u32], at: usize, reach: Reach) ->
     open_cluster.is_some()
 }
 
-/// The kind of a code point. It is a call, since the jumps of a table that becomes part of a loop
-/// are foreseen badly.
-#[inline(never)]
+/// The kind of a code point.
+#[inline(always)]
 fn kind_of(c: u32) -> Kind
     requires { IsScalar c }
     ensures { IsKindOf result c }
 {
-    Kind::of(to_char(c))
+    Kind::of_number(c)
 }
 
 /// Whether a cluster ends between the two code points where it begins before the first.

@@ -9,8 +9,8 @@ use nfg_lanes::widen;
 use std::alloc::{AllocError, Global};
 use std::marker::Model;
 
-/// How many code points become numbers at once by way of a scratch. A run of fewer does without one,
-/// which costs more to clear than they do.
+/// How many code points become numbers at once by way of a scratch, which is cleared at each call. A run of
+/// fewer does without one.
 const PART: usize = 256;
 
 /// Numbers in order. All of them stand in `narrow` while each fits 8 bits, and all in `wide` from the
@@ -110,7 +110,8 @@ fn fits(number: i32) -> bool
     number >= -1 && number <= 127
 }
 
-/// Moves all numbers to those in 32 bits.
+/// Moves all numbers to those in 32 bits. Mostly there are none to move, which the caller sees in place.
+#[inline(always)]
 fn move_all(narrow: &mut Vec<i8>, wide: &mut Vec<i32>) -> Result<(), AllocError>
     requires { AreKept narrow.old.items wide.old.items }
     ensures all { OnOk result (wide.new.items ≡ narrow.old.items ++ wide.old.items) }
@@ -121,6 +122,19 @@ fn move_all(narrow: &mut Vec<i8>, wide: &mut Vec<i32>) -> Result<(), AllocError>
     if narrow.is_empty() {
         return Ok(());
     }
+    move_some(narrow, wide)
+}
+
+/// The same where there are some.
+#[inline(never)]
+fn move_some(narrow: &mut Vec<i8>, wide: &mut Vec<i32>) -> Result<(), AllocError>
+    requires kept { AreKept narrow.old.items wide.old.items }
+    requires some { 0 < length narrow.old.items }
+    ensures all { OnOk result (wide.new.items ≡ narrow.old.items ++ wide.old.items) }
+    ensures moved { OnOk result (narrow.new.items ≡ []) }
+    ensures stays { OnErr result (narrow.new.items ≡ narrow.old.items) }
+    ensures stays_wide { OnErr result (wide.new.items ≡ wide.old.items) }
+{
     wide.resize(narrow.len(), 0)?;
     widen(narrow.as_slice(), wide.as_mut_slice());
     narrow.truncate(0);

@@ -16,6 +16,7 @@ pub mod KeptFacts
 pub mod KeptFront
 pub mod LookBack
 pub mod Memories
+pub mod NeighborFacts
 pub mod NotEmpty
 pub mod Pairs
 pub mod Parts

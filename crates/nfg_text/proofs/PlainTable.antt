@@ -1,5 +1,5 @@
 -- The table of plain code points holds the bit of each of the first plane.
-use Rattle.std.proofs.Common.{◌≡◌, ℕ, ◌+◌, ◌*◌, ◌/◌, ◌%◌, ◌^◌, ◌<◌, Bool, true, false, ◌&&◌, ◌||◌, ◌==◌, nat_le, [], ◌∷◌, List, refl, sym, ap, ◌∙◌, arith, le-leb, lt-ltb, le-ltb, eqb-true, slice_index, nat_lt, ap₂}
+use Rattle.std.proofs.Common.{◌≡◌, ℕ, ◌+◌, ◌*◌, ◌/◌, ◌%◌, ◌^◌, ◌<◌, ◌≤◌, Bool, true, false, not, ◌&&◌, ◌||◌, ◌==◌, nat_le, [], ◌∷◌, List, refl, sym, ap, ◌∙◌, arith, le-leb, lt-ltb, le-ltb, eqb-true, slice_index, nat_lt, ap₂}
 use Rattle.std.proofs.lemmas.Bool.{and_from, cond-true}
 use Rattle.ucd_breaks.proofs.GraphemeClusterBreakLemmas.{grapheme_cluster_break_stepped}
 use Rattle.ucd_derived.proofs.IndicConjunctBreakLemmas.{indic_conjunct_break_stepped}
@@ -9,12 +9,12 @@ use Rattle.ucd_normal.proofs.QuickCheckLemmas.{quick_check_stepped}
 use Rattle.ucd_table.specs.Rows.{Range, in_ranges}
 use Rattle.ucd_table.specs.Trie.{block_value, trie_value}
 use Rattle.ucd_table.proofs.Computing.{tables}
-use Rattle.ucd_table.proofs.Facts.{Stepped-below}
+use Rattle.ucd_table.proofs.Facts.{Stepped-always, Stepped-below}
 use Rattle.ucd_table.proofs.Stepped.{Stepped, of_ranges, map_stepped, zip_stepped, runs_of}
 use Rattle.ucd_table.proofs.StepsLemmas.{rises_from}
 use Rattle.ucd_table.proofs.TrieCheck.{trie_value-Stepped, trie_ok, all_below, all_below-at}
 use Rattle.nfg_text.specs.declared.plain_table.TheConstants.{PLAIN_WORDS}
-use Rattle.nfg_text.specs.Facts.{PrintableAsciiIsPlain}
+use Rattle.nfg_text.specs.Facts.{PrintableAsciiIsPlain, HangulSyllablesArePlain}
 use Rattle.nfg_text.specs.Graphemes.{starts_safely}
 use Rattle.nfg_text.specs.Plain.{is_plain, is_ordinary}
 use Rattle.nfg_text.specs.Properties.{bit}
@@ -100,3 +100,27 @@ printable_bits = Stepped-below low_plain low_stepped (λ c v. nat_lt c 0x20 || (
 pub printable_ascii_is_plain : PrintableAsciiIsPlain
 printable_ascii_is_plain c from end =
     sym (low_is_plain c (omega (arith, end))) ∙ ap (λ b. b || (low_plain c == 1)) (sym (le-ltb c 0x20 from)) ∙ printable_bits c (omega (arith, end))
+
+-- ---- Hangul syllables
+
+abbrev syllables : List Range
+syllables = (0xAC00, 0xD7A3) ∷ []
+
+unfoldable syllables_stepped : Stepped (in_ranges syllables)
+unfolding rises_from
+syllables_stepped = of_ranges syllables refl
+
+syllable_bits : (c : ℕ) → c ≤ 0x10_FFFF → (not (in_ranges syllables c) || (low_plain c == 1)) ≡ true
+unfolding tables low_stepped plane_stepped syllables_stepped safe_stepped ordinary_stepped safe_ordinary_stepped grapheme_cluster_break_stepped indic_conjunct_break_stepped is_extended_pictographic_stepped canonical_combining_class_stepped quick_check_stepped rises_from
+syllable_bits =
+    Stepped-always (λ c. not (in_ranges syllables c) || (low_plain c == 1))
+    (zip_stepped (λ r v. not r || (v == 1)) (in_ranges syllables) low_plain syllables_stepped low_stepped) refl
+
+in_syllables : (c : ℕ) → 0xAC00 ≤ c → c ≤ 0xD7A3 → in_ranges syllables c ≡ true
+unfolding in_ranges
+in_syllables c from end =
+    ap (λ b. b || false) (and_from (nat_le 0xAC00 c) (nat_le c 0xD7A3) (le-leb 0xAC00 c from) (le-leb c 0xD7A3 end))
+
+pub hangul_syllables_are_plain : HangulSyllablesArePlain
+hangul_syllables_are_plain c from end =
+    sym (low_is_plain c (omega (arith, end))) ∙ ap (λ r. not r || (low_plain c == 1)) (sym (in_syllables c from end)) ∙ syllable_bits c (omega (arith, end))

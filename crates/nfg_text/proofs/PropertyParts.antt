@@ -52,7 +52,7 @@ module _ (c : ℕ) where
   pub class_in_number : grapheme_cluster_break_from_number (properties_number c % 16) ≡ grapheme_cluster_break c
   class_in_number = ap grapheme_cluster_break_from_number class_number ∙ grapheme_cluster_break_from_number-grapheme_cluster_break_number (grapheme_cluster_break c)
 
-  conjunct_number : properties_number c / 16 % 4 ≡ indic_conjunct_break_number (indic_conjunct_break c)
+  pub conjunct_number : properties_number c / 16 % 4 ≡ indic_conjunct_break_number (indic_conjunct_break c)
   unfolding properties_number
   conjunct_number = second_part _ _ _ _ class_below conjunct_below
 

@@ -1,27 +1,23 @@
 -- What the cluster rules of UAX #29 read of the text before a place, in a few fields (this project's own).
-use Rattle.std.specs.Prelude.{◌≡◌, ℕ, Bool, true, false, not, ◌&&◌, ◌||◌, List, [], ◌∷◌, map, unwrap_or}
-use Rattle.ucd_breaks.specs.GraphemeClusterBreak.{grapheme_cluster_break}
-use Rattle.ucd_breaks.specs.declared.GraphemeClusterBreak.{GraphemeClusterBreak}
+use Rattle.std.specs.Prelude.{◌≡◌, ℕ, Bool, true, false, not, ◌&&◌, ◌||◌, List, [], ◌∷◌, map, Option, Some, None}
+use Rattle.ucd_breaks.specs.GraphemeClusterBreak.{grapheme_cluster_break, grapheme_cluster_break_number}
 use Rattle.ucd_derived.specs.IndicConjunctBreak.{indic_conjunct_break}
 use Rattle.ucd_derived.specs.declared.IndicConjunctBreak.{IndicConjunctBreak}
 use Rattle.ucd_derived.specs.declared.IndicConjunctBreak.TheVariants.{Linker, Extend}
 use Rattle.ucd_emoji.specs.Binary.{is_extended_pictographic}
-use Rattle.unicode_segmentation.specs.Grapheme.{break_by_pair, ends_in_linker, ends_in_pictograph, ends_in_half_flag, is_consonant, is_zwj, is_regional}
-use Rattle.nfg_text.specs.Graphemes.{starts_safely}
+use Rattle.unicode_segmentation.specs.Grapheme.{ends_in_linker, ends_in_pictograph, ends_in_half_flag, is_consonant, is_zwj, is_regional}
+use Rattle.nfg_text.specs.Properties.{properties_number}
 use Rattle.nfg_text.specs.declared.breaks.Kind.{Kind}
 use Rattle.nfg_text.specs.declared.breaks.Memory.{Memory}
 
--- the kind holds the three properties of the code point that the rules read, and whether it starts safely
-pub record IsKindOf (kind : Kind) (c : ℕ) : Type 0 where
-  pub class : kind.class ≡ grapheme_cluster_break c
-  pub conjunct : kind.conjunct ≡ indic_conjunct_break c
-  pub pictograph : kind.is_pictograph ≡ is_extended_pictographic c
-  pub safe : kind.starts_safely ≡ starts_safely c
+-- the kind is of this code point
+abbrev pub IsKindOf : Kind → ℕ → Type 0
+IsKindOf kind c = kind.number ≡ properties_number c
 
--- the break class is that of the last code point, where there is one; `before` is given from its end
-abbrev pub IsClassOfLast : GraphemeClusterBreak → List ℕ → Type 0
+-- the number is that of the break class of the last code point, where there is one; `before` is given from its end
+abbrev pub IsClassOfLast : ℕ → List ℕ → Type 0
 IsClassOfLast class [] = Unit {0}
-IsClassOfLast class (last ∷ before) = class ≡ grapheme_cluster_break last
+IsClassOfLast class (last ∷ before) = class ≡ grapheme_cluster_break_number (grapheme_cluster_break last)
 
 -- the text, given from its end, ends in Extended_Pictographic Extend* ZWJ
 abbrev pub ends_in_emoji_joiner : List ℕ → Bool
@@ -42,14 +38,15 @@ is_linked_after Linker before = true
 is_linked_after Extend before = before
 is_linked_after _ before = false
 
--- a rule that looks back holds the next code point of this kind to a text with this memory
-abbrev pub joins_by_memory : Memory → Kind → Bool
+-- a rule that looks back holds the next code point to a text with this memory
+abbrev pub joins_by_memory : Memory → ℕ → Bool
 joins_by_memory memory next =
-    (memory.after_linker && is_consonant next.conjunct)
-    || (memory.after_joiner && next.is_pictograph)
-    || (memory.half_flag && is_regional next.class)
+    (memory.after_linker && is_consonant (indic_conjunct_break next))
+    || (memory.after_joiner && is_extended_pictographic next)
+    || (memory.half_flag && is_regional (grapheme_cluster_break next))
 
--- whether the rules put a boundary between the two
-abbrev pub breaks_by_memory : Memory → Kind → Bool
-breaks_by_memory memory next =
-    unwrap_or (break_by_pair true memory.class next.class) (not (joins_by_memory memory next))
+-- what the rules on two neighbors say, as a number: they hold them together, they part them, or nothing
+abbrev pub rule_number : Option Bool → ℕ
+rule_number (Some false) = 0
+rule_number (Some true) = 1
+rule_number None = 2

@@ -145,3 +145,6 @@ PlainStandsApart = (c : ℕ) → is_plain c ≡ true → StandsApart c
 -- every code point from 20 to 7E is plain
 abbrev pub PrintableAsciiIsPlain : Type 0
 PrintableAsciiIsPlain = (c : ℕ) → 0x20 ≤ c → c ≤ 0x7E → is_plain c ≡ true
+
+abbrev pub HangulSyllablesArePlain : Type 0
+HangulSyllablesArePlain = (c : ℕ) → 0xAC00 ≤ c → c ≤ 0xD7A3 → is_plain c ≡ true

@@ -1,26 +1,23 @@
 //! Boundaries of extended grapheme clusters, found from a memory of a few fields (UAX #29).
 ghost use Rattle.std.specs.Prelude.{◌≡◌, ◌<◌, ℕ, true, List, [], ◌∷◌, ◌++◌, length, if◌then◌else◌, IfOk, OnOk};
-ghost use Rattle.unicode_segmentation.specs.Grapheme.{break_by_pair, is_consonant, is_extend, is_zwj, is_regional, is_grapheme_break};
-ghost use Rattle.nfg_text.specs.Breaks.{IsKindOf, Remembers, is_linked_after, breaks_by_memory};
+ghost use Rattle.ucd_breaks.specs.GraphemeClusterBreak.{grapheme_cluster_break, grapheme_cluster_break_number};
+ghost use Rattle.ucd_derived.specs.IndicConjunctBreak.{indic_conjunct_break};
+ghost use Rattle.ucd_emoji.specs.Binary.{is_extended_pictographic};
+ghost use Rattle.unicode_segmentation.specs.Grapheme.{is_consonant, is_extend, is_zwj, is_regional, is_grapheme_break};
+ghost use Rattle.nfg_text.specs.Breaks.{IsKindOf, Remembers, is_linked_after, joins_by_memory};
 ghost use Rattle.nfg_text.specs.Graphemes.{cluster_ends, starts_safely};
-ghost use Rattle.nfg_text.specs.Plain.{is_plain, is_none, stands_apart};
+ghost use Rattle.nfg_text.specs.Plain.{is_plain};
 ghost use Rattle.nfg_text.specs.Text.{IsText};
 
 use crate::EndList;
-use crate::normal::to_char;
-use crate::properties::{class_of, conjunct_of, properties_of};
+use crate::neighbors::{PARTS, SILENT, rule_between};
+use crate::properties::{is_plain_number, properties_of};
 use std::alloc::{AllocError, Global};
-use ucd_breaks::GraphemeClusterBreak;
-use ucd_breaks::GraphemeClusterBreak::*;
-use ucd_derived::IndicConjunctBreak;
 
 /// What the rules read of a code point, and whether it starts safely.
 #[derive(Clone, Copy)]
 pub struct Kind {
-    class: GraphemeClusterBreak,
-    conjunct: IndicConjunctBreak,
-    is_pictograph: bool,
-    starts_safely: bool,
+    number: u32,
 }
 
 impl Kind {
@@ -30,37 +27,94 @@ impl Kind {
     pub fn of(c: char) -> Kind
         ensures { IsKindOf result c }
     {
-        let number = properties_of(c as u32);
+        Kind::of_number(c as u32)
+    }
+
+    /// The same of the number of a code point.
+    #[inline(always)]
+    pub fn of_number(c: u32) -> Kind
+        requires { c < 0x11_0000 }
+        ensures { IsKindOf result c }
+    {
         Kind {
-            class: class_of(number % 16),
-            conjunct: conjunct_of(number / 16 % 4),
-            is_pictograph: number / 64 % 2 == 1,
-            starts_safely: number < 128,
+            number: properties_of(c),
         }
     }
 
     /// Whether the code point starts safely.
-    #[inline]
+    #[inline(always)]
     pub fn starts_safely(self) -> bool
         ensures { (c : ℕ) → IsKindOf self c → result ≡ starts_safely c }
     {
-        self.starts_safely
+        self.number < 128
     }
 
     /// Whether the code point is plain.
-    #[inline]
+    #[inline(always)]
     pub fn is_plain(self) -> bool
         ensures { (c : ℕ) → c < 0x11_0000 → IsKindOf self c → result ≡ is_plain c }
     {
-        self.starts_safely
-            & (stands_apart(self.class) & (is_none(self.conjunct) & !self.is_pictograph))
+        is_plain_number(self.number)
+    }
+
+    /// The number of the break class.
+    #[inline(always)]
+    fn class(self) -> u8
+        ensures { (c : ℕ) → IsKindOf self c
+            → result ≡ grapheme_cluster_break_number (grapheme_cluster_break c) }
+    {
+        (self.number % 16) as u8
+    }
+
+    #[inline(always)]
+    fn is_extend(self) -> bool
+        ensures { (c : ℕ) → IsKindOf self c → result ≡ is_extend (grapheme_cluster_break c) }
+    {
+        self.class() == 2
+    }
+
+    #[inline(always)]
+    fn is_regional(self) -> bool
+        ensures { (c : ℕ) → IsKindOf self c → result ≡ is_regional (grapheme_cluster_break c) }
+    {
+        self.class() == 8
+    }
+
+    #[inline(always)]
+    fn is_zwj(self) -> bool
+        ensures { (c : ℕ) → IsKindOf self c → result ≡ is_zwj (grapheme_cluster_break c) }
+    {
+        self.class() == 13
+    }
+
+    #[inline(always)]
+    fn is_pictograph(self) -> bool
+        ensures { (c : ℕ) → IsKindOf self c → result ≡ is_extended_pictographic c }
+    {
+        self.number / 64 % 2 == 1
+    }
+
+    #[inline(always)]
+    fn is_consonant(self) -> bool
+        ensures { (c : ℕ) → IsKindOf self c → result ≡ is_consonant (indic_conjunct_break c) }
+    {
+        self.number / 16 % 4 == 0
+    }
+
+    /// Whether a text ends in a linker and what may follow one in a conjunct, once the code point does.
+    #[inline(always)]
+    fn is_linked_after(self, before: bool) -> bool
+        ensures { (c : ℕ) → IsKindOf self c → result ≡ is_linked_after (indic_conjunct_break c) before }
+    {
+        let conjunct = self.number / 16 % 4;
+        (conjunct == 2) | ((conjunct == 1) & before)
     }
 }
 
 /// What the rules need to know of the text before a place.
 #[derive(Clone, Copy)]
 pub struct Memory {
-    class: GraphemeClusterBreak,
+    class: u8,
     after_linker: bool,
     after_pictograph: bool,
     after_joiner: bool,
@@ -74,7 +128,7 @@ impl Memory {
         ensures { Remembers result [] }
     {
         Memory {
-            class: Other,
+            class: 0,
             after_linker: false,
             after_pictograph: false,
             after_joiner: false,
@@ -83,41 +137,38 @@ impl Memory {
     }
 
     /// Whether a cluster ends between the text, which is not empty, and a next code point.
-    #[inline]
+    #[inline(always)]
     pub fn breaks_before(self, next: Kind) -> bool
         ensures { (before after : List ℕ) (c : ℕ) → Remembers self before → IsKindOf next c
             → 0 < length before → result ≡ is_grapheme_break true before (c ∷ after) }
     {
-        self.decides(next)
+        let rule = rule_between(self.class, next.class());
+        (rule == PARTS) | ((rule == SILENT) & !self.joins(next))
+    }
+
+    /// Whether a rule that looks back holds a next code point to the text.
+    #[inline(always)]
+    fn joins(self, next: Kind) -> bool
+        ensures { (c : ℕ) → IsKindOf next c → result ≡ joins_by_memory self c }
+    {
+        let joins_conjunct = self.after_linker & next.is_consonant();
+        let joins_emoji = self.after_joiner & next.is_pictograph();
+        let joins_flag = self.half_flag & next.is_regional();
+        joins_conjunct | joins_emoji | joins_flag
     }
 
     /// The memory of the text with a next code point.
-    #[inline]
+    #[inline(always)]
     pub fn then(self, next: Kind) -> Memory
         ensures { (before : List ℕ) (c : ℕ) → Remembers self before → IsKindOf next c
             → Remembers result (c ∷ before) }
     {
         Memory {
-            class: next.class,
-            after_linker: is_linked_after(next.conjunct, self.after_linker),
-            after_pictograph: next.is_pictograph | (is_extend(next.class) & self.after_pictograph),
-            after_joiner: is_zwj(next.class) & self.after_pictograph,
-            half_flag: is_regional(next.class) & !self.half_flag,
-        }
-    }
-
-    #[inline]
-    fn decides(self, next: Kind) -> bool
-        ensures { result ≡ breaks_by_memory self next }
-    {
-        match break_by_neighbors(self.class, next.class) {
-            Some(is_break) => is_break,
-            None => {
-                let joins_conjunct = self.after_linker & is_consonant(next.conjunct);
-                let joins_emoji = self.after_joiner & next.is_pictograph;
-                let joins_flag = self.half_flag & is_regional(next.class);
-                !(joins_conjunct | joins_emoji | joins_flag)
-            }
+            class: next.class(),
+            after_linker: next.is_linked_after(self.after_linker),
+            after_pictograph: next.is_pictograph() | (next.is_extend() & self.after_pictograph),
+            after_joiner: next.is_zwj() & self.after_pictograph,
+            half_flag: next.is_regional() & !self.half_flag,
         }
     }
 }
@@ -130,7 +181,7 @@ pub fn cluster_ends(alloc: Global, t: &[u32]) -> Result<EndList, AllocError>
     let mut ends = Vec::new(alloc);
     let mut memory = Memory::new();
     for i in 0..t.len() {
-        let next = Kind::of(to_char(t[i]));
+        let next = Kind::of_number(t[i]);
         push_if(&mut ends, (i > 0) & memory.breaks_before(next), i)?;
         memory = memory.then(next);
     }
@@ -146,78 +197,4 @@ fn push_if(ends: &mut Vec<usize>, is_end: bool, at: usize) -> Result<(), AllocEr
         ends.push(at)?;
     }
     Ok(())
-}
-
-/// The rules on the two neighbors of a place alone: whether they break, where one of them applies.
-#[inline]
-fn break_by_neighbors(left: GraphemeClusterBreak, right: GraphemeClusterBreak) -> Option<bool>
-    ensures { result ≡ break_by_pair true left right }
-{
-    match (left, right) {
-        // GB3 to GB5: CR LF holds together, and every control stands alone
-        (Cr, Lf) => Some(false),
-        (Cr | Lf | Control, _) => Some(true),
-        (_, Cr | Lf | Control) => Some(true),
-        // GB6 to GB8: a Hangul syllable holds together
-        (L, L | V | Lv | Lvt) => Some(false),
-        (Lv | V, V | T) => Some(false),
-        (Lvt | T, T) => Some(false),
-        // GB9 to GB9b: marks join what comes before, and Prepend what follows
-        (_, Extend | Zwj | SpacingMark) => Some(false),
-        (Prepend, _) => Some(false),
-        _ => None,
-    }
-}
-
-#[inline]
-fn is_linked_after(conjunct: IndicConjunctBreak, before: bool) -> bool
-    ensures { result ≡ is_linked_after conjunct before }
-{
-    match conjunct {
-        IndicConjunctBreak::Linker => true,
-        IndicConjunctBreak::Extend => before,
-        _ => false,
-    }
-}
-
-#[inline]
-fn stands_apart(class: GraphemeClusterBreak) -> bool
-    ensures { result ≡ stands_apart class }
-{
-    matches!(class, Other | Lv | Lvt)
-}
-
-#[inline]
-fn is_none(conjunct: IndicConjunctBreak) -> bool
-    ensures { result ≡ is_none conjunct }
-{
-    matches!(conjunct, IndicConjunctBreak::None)
-}
-
-#[inline]
-fn is_consonant(conjunct: IndicConjunctBreak) -> bool
-    ensures { result ≡ is_consonant conjunct }
-{
-    matches!(conjunct, IndicConjunctBreak::Consonant)
-}
-
-#[inline]
-fn is_extend(class: GraphemeClusterBreak) -> bool
-    ensures { result ≡ is_extend class }
-{
-    matches!(class, Extend)
-}
-
-#[inline]
-fn is_zwj(class: GraphemeClusterBreak) -> bool
-    ensures { result ≡ is_zwj class }
-{
-    matches!(class, Zwj)
-}
-
-#[inline]
-fn is_regional(class: GraphemeClusterBreak) -> bool
-    ensures { result ≡ is_regional class }
-{
-    matches!(class, RegionalIndicator)
 }

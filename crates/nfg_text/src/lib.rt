@@ -8,6 +8,7 @@ pub use normal::{append_nfc, compose_pair, is_plain, is_text, nfc_of, starts_saf
 mod breaks;
 pub mod laws;
 mod list;
+mod neighbors;
 mod normal;
 mod plain_table;
 mod properties;

@@ -1,15 +1,10 @@
 //! The properties of a code point that this crate reads, by one look-up.
 ghost use Rattle.std.specs.Prelude.{◌≡◌, ◌<◌};
-ghost use Rattle.ucd_breaks.specs.GraphemeClusterBreak.{grapheme_cluster_break_from_number};
-ghost use Rattle.ucd_derived.specs.IndicConjunctBreak.{indic_conjunct_break_from_number};
 ghost use Rattle.nfg_text.specs.Plain.{is_plain};
 ghost use Rattle.nfg_text.specs.Properties.{properties_number, is_plain_number};
 
 use crate::plain_table::PLAIN_WORDS;
 use crate::property_table::{INDEX, TAIL, WORDS};
-use ucd_breaks::GraphemeClusterBreak;
-use ucd_breaks::GraphemeClusterBreak::*;
-use ucd_derived::IndicConjunctBreak as Conjunct;
 
 /// The number of a code point: its break class, 16 times its conjunct value, 64 for a pictograph,
 /// and 128 where it does not start safely.
@@ -37,42 +32,4 @@ pub(crate) fn is_plain_number(number: u32) -> bool
     ensures { result ≡ is_plain_number number }
 {
     (number == 60) | (number == 53) | (number == 54)
-}
-
-#[inline(always)]
-pub(crate) fn class_of(number: u32) -> GraphemeClusterBreak
-    requires { number < 14 }
-    ensures { result ≡ grapheme_cluster_break_from_number number }
-{
-    match number {
-        0 => Control,
-        1 => Cr,
-        2 => Extend,
-        3 => L,
-        4 => Lf,
-        5 => Lv,
-        6 => Lvt,
-        7 => Prepend,
-        8 => RegionalIndicator,
-        9 => SpacingMark,
-        10 => T,
-        11 => V,
-        12 => Other,
-        13 => Zwj,
-        _ => unreachable!(),
-    }
-}
-
-#[inline(always)]
-pub(crate) fn conjunct_of(number: u32) -> Conjunct
-    requires { number < 4 }
-    ensures { result ≡ indic_conjunct_break_from_number number }
-{
-    match number {
-        0 => Conjunct::Consonant,
-        1 => Conjunct::Extend,
-        2 => Conjunct::Linker,
-        3 => Conjunct::None,
-        _ => unreachable!(),
-    }
 }

@@ -2,9 +2,9 @@ use Rattle.std.proofs.Common.{true, ap, sym, subst, ◌+◌, ◌++◌, ◌∙◌
 use Rattle.unicode_segmentation.specs.Grapheme.{is_grapheme_break}
 use Rattle.nfg_text.proofs.Memories.{rule-last}
 use Rattle.nfg_text.proofs.Places.{places, places-start, places-step, places-finish, reverse-take-more, length-reverse-take}
-use Rattle.nfg_text.specs.Breaks.{IsKindOf, Remembers}
+use Rattle.nfg_text.specs.Breaks.{Remembers}
 use Rattle.nfg_text.specs.Graphemes.{cluster_ends}
-use Rattle.nfg_text.proofs.Scalars.{scalar_at}
+use Rattle.nfg_text.proofs.Scalars.{scalar_at, scalar-below}
 use Rattle.nfg_text.proofs.breaks.cluster_ends.Goals as goal
 
 pub loop-i-init : goal.loop-i-init
@@ -14,8 +14,8 @@ loop-i-init c =
       ends = ap (λ l. l ++ places (is_grapheme_break true) 0 _ c.args.t.now) c.new-ends.ensures.items ∙ places-start (is_grapheme_break true) rule-last c.args.t.now;
     }
 
-pub to_char-requires : goal.to_char-requires
-to_char-requires c = scalar_at c.args.t.now c.loop-i.i 0 c.requires c.loop-i-test.true
+pub of_number-next-requires : goal.of_number-next-requires
+of_number-next-requires c = scalar-below _ (scalar_at c.args.t.now c.loop-i.i 0 c.requires c.loop-i-test.true)
 
 pub loop-i-preserved : goal.loop-i-preserved
 loop-i-preserved c =
@@ -23,7 +23,7 @@ loop-i-preserved c =
     let i = c.loop-i.i in
     let rule = is_grapheme_break true in
     let back = reverse-take-more t i c.loop-i-test.true in
-    let kind = subst (λ x. IsKindOf c.of-next.result x) c.to_char.ensures c.of-next.ensures in
+    let kind = c.of_number-next.ensures in
     record {
       remembers = subst (Remembers c.then-memory.result) (sym back) (c.then-memory.ensures (reverse (take i t)) (get_or t i 0) c.loop-i.invariant.remembers kind);
       ends =
