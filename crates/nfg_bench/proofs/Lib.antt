@@ -1,3 +1,4 @@
 pub mod ElementLemmas
+pub mod GraphemeLemmas
 pub mod SampleLemmas
 pub mod TextLemmas

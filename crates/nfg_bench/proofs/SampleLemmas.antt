@@ -1,5 +1,5 @@
 -- A sample again and again.
-use Rattle.std.proofs.Common.{◌≡◌, ℕ, zero, suc, ◌+◌, ◌*◌, ◌≤◌, ◌/◌, List, [], ◌++◌, length, replicate, max, refl, sym, ap, ◌∙◌, add-one, append-nil, append_assoc, length-append, suc-mul, arith}
+use Rattle.std.proofs.Common.{◌≡◌, ℕ, zero, suc, ◌+◌, ◌*◌, ◌≤◌, ◌/◌, List, ◌++◌, length, replicate, max, sym, ap, ◌∙◌, add-one, append-nil, append_assoc, length-append, suc-mul, arith}
 use Rattle.std.proofs.Math.Nat.{div-mul-le_self}
 use Rattle.std.proofs.lemmas.Nat.{mul-le}
 use Rattle.std.specs.List.{concat}

@@ -3,9 +3,13 @@ use Rattle.std.proofs.Common.{◌≡◌, ℕ, ◌<◌, List, [], ◌∷◌, ◌+
 use Rattle.std.proofs.lemmas.Bool.{and_from}
 use Rattle.std.proofs.lemmas.List.{get_or_default}
 use Rattle.std.specs.Char.{IsScalar}
+use Rattle.std.specs.Str.{chars}
+use Rattle.std.specs.Str.Lossy.{utf8_valid_len}
 use Rattle.nfg_text.specs.Text.{IsText}
 use Rattle.nfg_text.proofs.Proved.{parts_of_text}
-use Rattle.nfg_decode.specs.Encoding.{AreBytes}
+use Rattle.nfg_decode.specs.declared.encoding.Encoding.TheVariants.{Utf8}
+use Rattle.nfg_decode.specs.Encoding.{AreBytes, decode, decoded_prefix}
+use Rattle.nfg_decode.specs.Utf8.{decode_utf8}
 
 pub text_part : (n m : ℕ) (t : List ℕ) → IsText t → IsText (take n (drop m t))
 text_part n m t all =
@@ -29,3 +33,8 @@ text_front whole front back is all = ((parts_of_text front back).0 (subst IsText
 
 pub text_back : (whole front back : List ℕ) → whole ≡ front ++ back → IsText whole → IsText back
 text_back whole front back is all = ((parts_of_text front back).0 (subst IsText is all)).1
+
+-- no bytes have no text before them
+pub decoded_none : decoded_prefix Utf8 [] ≡ []
+unfolding decoded_prefix decode decode_utf8 utf8_valid_len chars
+decoded_none = refl

@@ -1,4 +1,6 @@
 //! Segmenting by nfg_segment: a text in one piece beside the same fed code point by code point.
+ghost use Rattle.std.specs.Prelude.{◌≡◌, length, IfOk};
+ghost use Rattle.nfg_text.specs.Graphemes.{graphemes_of};
 ghost use Rattle.nfg_text.specs.Text.{IsText};
 
 use crate::texts;
@@ -64,6 +66,7 @@ impl CodePoints {
 /// Feeds the text in pieces of a length, and answers how many graphemes it has.
 fn segment(alloc: Global, text: &[u32], piece_len: usize) -> Result<usize, AllocError>
     requires { IsText text.now }
+    ensures { IfOk result (λ count. count ≡ length (graphemes_of text.now)) }
 {
     let mut clusters = Clusters::new(alloc);
     let mut segmenter = Segmenter::new(alloc);
