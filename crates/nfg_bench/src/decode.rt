@@ -1,6 +1,9 @@
 //! Decoding by nfg_decode: beside the plain widening loop, ever more bytes, and byte by byte.
-ghost use Rattle.std.specs.Prelude.{◌≡◌, ◌+◌, ◌^◌, ◌≤◌, length, OnOk};
-ghost use Rattle.nfg_decode.specs.Stream.{fed_count};
+ghost use Rattle.std.specs.Prelude.{◌≡◌, ◌+◌, ◌%◌, ◌^◌, ◌≤◌, ℕ, List, ◌++◌, length, IfOk, IsOkAnd, OnOk};
+ghost use Rattle.nfg_decode.specs.declared.encoding.Encoding.{Encoding};
+ghost use Rattle.nfg_decode.specs.Encoding.{decode};
+ghost use Rattle.nfg_decode.specs.State.{GivesNext};
+ghost use Rattle.nfg_decode.specs.Stream.{HasRead, fed_count};
 
 use crate::plain;
 use crate::texts::{self, ByteOrder, LONG, MOST, PIECE, SHORT};
@@ -37,7 +40,12 @@ fn feed_part(
     into: &mut CodeList,
 ) -> Result<(), DecodeError>
     requires { fed_count stream.old + length part.now ≤ 2 ^ 32 }
-    ensures { OnOk result (fed_count stream.new ≡ fed_count stream.old + length part.now) }
+    ensures count { OnOk result (fed_count stream.new ≡ fed_count stream.old + length part.now) }
+    // In what follows, the stream has read `fed`.
+    ensures read { (e : Encoding) (fed : List ℕ) → HasRead stream.old e fed
+        → OnOk result (HasRead stream.new e (fed ++ part.now)) }
+    ensures codes { (e : Encoding) (fed : List ℕ) → HasRead stream.old e fed
+        → OnOk result (GivesNext e fed part.now into.old into.new) }
 {
     let mut rest = part;
     while !rest.is_empty() {
@@ -48,9 +56,11 @@ fn feed_part(
     Ok(())
 }
 
-/// Decodes the bytes, and answers how many code points they are.
+/// Decodes the bytes, and answers how many code points they are, in a number that may wrap.
 fn decode(alloc: Global, feeding: Feeding, bytes: &[u8]) -> Result<usize, DecodeError>
     requires { length bytes.now ≤ 2 ^ 32 }
+    ensures { IfOk result (λ codes. IsOkAnd (decode feeding.encoding bytes.now)
+        (λ text. codes ≡ length text % 2 ^ 64)) }
 {
     let mut into = CodeList::new(alloc);
     let mut stream = ByteStream::new(feeding.encoding);

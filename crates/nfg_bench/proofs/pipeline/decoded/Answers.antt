@@ -9,7 +9,7 @@ returns-in-Ok-finish-clause-codes c =
     let bytes = c.args.bytes.now in
     let whole = c.in-Ok-finish.ensures.whole Utf8 bytes (c.in-Ok.ensures.read Utf8 [] c.new-stream.ensures.read) in
     let given = c.in-Ok.ensures.decoded Utf8 [] c.new-stream.ensures.read in
-    whole ∙ ap Ok (given.2 ∙ ap (λ l. l ++ given.0) (decoded_none ∙ sym c.new-into.ensures) ∙ sym given.1)
+    whole ∙ ap Ok (given.2 ∙ ap (λ l. l ++ given.0) (decoded_none Utf8 ∙ sym c.new-into.ensures) ∙ sym given.1)
 
 pub returns-in-Ok-finish-clause-text : goal.returns-in-Ok-finish-clause-text
 returns-in-Ok-finish-clause-text c =
