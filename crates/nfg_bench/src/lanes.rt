@@ -51,13 +51,15 @@ struct FirstEqual8<'a> {
 
 impl Comparison for FirstEqual8<'_> {
     fn fast(&self, run: usize) -> usize
-        ensures { result ≡ position_or_len (λ y. int_eq y (negsuc 0)) (drop (run % 32) self.now.list.now) }
+        ensures { result ≡ position_or_len (λ y. int_eq y (negsuc 0))
+            (drop (run % 32) self.now.list.now) }
     {
         nfg_lanes::first_equal8(from_run(self.list, run), -1)
     }
 
     fn plain(&self, run: usize) -> usize
-        ensures { result ≡ position_or_len (λ y. int_eq y (negsuc 0)) (drop (run % 32) self.now.list.now) }
+        ensures { result ≡ position_or_len (λ y. int_eq y (negsuc 0))
+            (drop (run % 32) self.now.list.now) }
     {
         plain::first_equal8(from_run(self.list, run), -1)
     }
@@ -70,13 +72,15 @@ struct FirstEqual32<'a> {
 
 impl Comparison for FirstEqual32<'_> {
     fn fast(&self, run: usize) -> usize
-        ensures { result ≡ position_or_len (λ y. int_eq y (negsuc 0)) (drop (run % 32) self.now.list.now) }
+        ensures { result ≡ position_or_len (λ y. int_eq y (negsuc 0))
+            (drop (run % 32) self.now.list.now) }
     {
         nfg_lanes::first_equal32(from_run(self.list, run), -1)
     }
 
     fn plain(&self, run: usize) -> usize
-        ensures { result ≡ position_or_len (λ y. int_eq y (negsuc 0)) (drop (run % 32) self.now.list.now) }
+        ensures { result ≡ position_or_len (λ y. int_eq y (negsuc 0))
+            (drop (run % 32) self.now.list.now) }
     {
         plain::first_equal32(from_run(self.list, run), -1)
     }
@@ -177,13 +181,15 @@ struct NarrowFits<'a> {
 
 impl Comparison for NarrowFits<'_> {
     fn fast(&self, run: usize) -> usize
-        ensures { result ≡ (if list_all is_narrow_grapheme (drop (run % 32) self.now.list.now) then 1 else 0) }
+        ensures { result
+            ≡ (if list_all is_narrow_grapheme (drop (run % 32) self.now.list.now) then 1 else 0) }
     {
         nfg_lanes::narrow_fits(from_run(self.list, run)) as usize
     }
 
     fn plain(&self, run: usize) -> usize
-        ensures { result ≡ (if list_all is_narrow_grapheme (drop (run % 32) self.now.list.now) then 1 else 0) }
+        ensures { result
+            ≡ (if list_all is_narrow_grapheme (drop (run % 32) self.now.list.now) then 1 else 0) }
     {
         plain::narrow_fits(from_run(self.list, run)) as usize
     }

@@ -58,7 +58,8 @@ fn number_of(alloc: Global, table: &OwnTable, pass: &mut OwnPass, cluster: &[u32
     table.intern(alloc, pass, cluster).unwrap_or(0)
 }
 
-/// The numbers of the clusters that end so, one for each end. It is 0 where an end is none of the text.
+/// The numbers of the clusters that end so, one for each end. It is 0 where an end is none of the
+/// text.
 fn numbers_of(
     alloc: Global,
     table: &OwnTable,
@@ -80,7 +81,8 @@ fn numbers_of(
     Ok(numbers)
 }
 
-/// The number of the cluster from one place to another. It is 0 where these are no places of the text.
+/// The number of the cluster from one place to another. It is 0 where these are no places of the
+/// text.
 fn number_between(
     alloc: Global,
     table: &OwnTable,

@@ -1,5 +1,6 @@
 //! Segmenting by nfg_segment: a text in one piece beside the same fed code point by code point.
-ghost use Rattle.std.specs.Prelude.{◌≡◌, length, IfOk};
+ghost use Rattle.std.specs.Prelude.{◌≡◌, ℕ, [], ◌∷◌, ◌++◌, length, replicate, chars, IfOk, OnOk};
+ghost use Rattle.std.specs.List.{concat};
 ghost use Rattle.nfg_text.specs.Graphemes.{graphemes_of};
 ghost use Rattle.nfg_text.specs.Text.{IsText};
 
@@ -33,31 +34,39 @@ impl Model for CodePoints {
 
 impl CodePoints {
     /// A front, and behind it the sample again and again.
-    fn repeated(alloc: Global, front: &str, sample: &str) -> Result<CodePoints, AllocError> {
+    fn repeated(alloc: Global, front: &str, sample: &str) -> Result<CodePoints, AllocError>
+        ensures { IfOk result (λ text. (n : ℕ)
+            × (text ≡ chars front.now ++ concat (replicate n (chars sample.now)))) }
+    {
         let mut text = CodePoints {
             codes: Vec::new(alloc),
         };
         text.append(front)?;
-        for _ in 0..COUNT / sample.chars().count().max(1) {
+        for _k in 0..COUNT / sample.chars().count().max(1) {
             text.append(sample)?;
         }
         Ok(text)
     }
 
-    fn append(&mut self, part: &str) -> Result<(), AllocError> {
+    fn append(&mut self, part: &str) -> Result<(), AllocError>
+        ensures { OnOk result (self.new ≡ self.old ++ chars part.now) }
+    {
         for c in part.chars() {
             self.push(c)?;
         }
         Ok(())
     }
 
-    fn push(&mut self, c: char) -> Result<(), AllocError> {
+    fn push(&mut self, c: char) -> Result<(), AllocError>
+        ensures { OnOk result (self.new ≡ self.old ++ c ∷ []) }
+    {
         self.codes.push(c as u32)?;
         Ok(())
     }
 
     fn as_slice(&self) -> &[u32]
-        ensures { IsText result.now }
+        ensures codes { result.now ≡ self.now }
+        ensures text { IsText result.now }
     {
         self.codes.as_slice()
     }

@@ -102,7 +102,8 @@ impl Comparison for Finding<'_> {
     }
 
     fn plain(&self, _run: usize) -> usize
-        ensures { result ≡ position_or_len (λ y. int_eq y (negsuc 0)) self.now.string.now.graphemes }
+        ensures { result
+            ≡ position_or_len (λ y. int_eq y (negsuc 0)) self.now.string.now.graphemes }
     {
         let len = self.string.len() as usize;
         let mut at: usize = 0;
@@ -134,7 +135,8 @@ impl Comparison for CommonFront<'_> {
     }
 
     fn plain(&self, _run: usize) -> usize
-        ensures { result ≡ common_prefix_len int_eq self.now.a.now.graphemes self.now.b.now.graphemes }
+        ensures { result
+            ≡ common_prefix_len int_eq self.now.a.now.graphemes self.now.b.now.graphemes }
     {
         let len = self.a.len().min(self.b.len()) as usize;
         let mut at: usize = 0;

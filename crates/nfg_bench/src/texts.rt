@@ -85,7 +85,7 @@ pub fn repeated(alloc: Global, sample: &[u8], size: usize) -> Result<Vec<u8>, Al
 {
     let mut bytes = Vec::new(alloc);
     bytes.reserve(size)?;
-    for k in 0..size / sample.len().max(1) {
+    for _k in 0..size / sample.len().max(1) {
         bytes.extend_from_slice(sample)?;
     }
     Ok(bytes)
