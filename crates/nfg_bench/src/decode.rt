@@ -1,5 +1,5 @@
 //! Decoding by nfg_decode: beside the plain widening loop, ever more bytes, and byte by byte.
-ghost use Rattle.std.specs.Prelude.{◌≡◌, ◌+◌, ◌%◌, ◌^◌, ◌≤◌, ℕ, List, ◌++◌, length, IfOk, IsOkAnd, OnOk};
+ghost use Rattle.std.specs.Prelude.{◌≡◌, ◌⊎◌, ◌+◌, ◌%◌, ◌^◌, ◌≤◌, ℕ, List, ◌++◌, length, IfOk, IsOkAnd, OnOk};
 ghost use Rattle.nfg_decode.specs.declared.encoding.Encoding.{Encoding};
 ghost use Rattle.nfg_decode.specs.Encoding.{decode};
 ghost use Rattle.nfg_decode.specs.State.{GivesNext};
@@ -23,7 +23,9 @@ struct Feeding {
 }
 
 /// In pieces of 64 KiB, each of which finds an empty list.
-fn by_pieces(encoding: Encoding) -> Feeding {
+fn by_pieces(encoding: Encoding) -> Feeding
+    ensures { result.encoding ≡ encoding }
+{
     Feeding {
         encoding,
         piece_len: PIECE,
@@ -78,7 +80,10 @@ fn decode(alloc: Global, feeding: Feeding, bytes: &[u8]) -> Result<usize, Decode
 }
 
 /// How many code points the bytes are, and none where they are refused.
-fn count(alloc: Global, feeding: Feeding, bytes: &[u8]) -> usize {
+fn count(alloc: Global, feeding: Feeding, bytes: &[u8]) -> usize
+    ensures { (result ≡ 0) ⊎ IsOkAnd (decode feeding.encoding bytes.now)
+        (λ text. result ≡ length text % 2 ^ 64) }
+{
     if bytes.len() > MOST {
         return 0;
     }
@@ -93,7 +98,10 @@ struct WholeAscii<'a> {
 }
 
 impl Comparison for WholeAscii<'_> {
-    fn fast(&self, _run: usize) -> usize {
+    fn fast(&self, _run: usize) -> usize
+        ensures { (result ≡ 0) ⊎ IsOkAnd (decode Encoding.Utf8 self.now.bytes.now)
+            (λ text. result ≡ length text % 2 ^ 64) }
+    {
         let feeding = Feeding {
             encoding: Encoding::Utf8,
             piece_len: PIECE,
@@ -102,7 +110,9 @@ impl Comparison for WholeAscii<'_> {
         count(self.alloc, feeding, self.bytes)
     }
 
-    fn plain(&self, _run: usize) -> usize {
+    fn plain(&self, _run: usize) -> usize
+        ensures { (result ≡ 0) ⊎ (result ≡ length self.now.bytes.now) }
+    {
         match plain::widened(self.alloc, self.bytes) {
             Ok(codes) => codes.len(),
             Err(_) => 0,
@@ -118,11 +128,16 @@ struct Ascii<'a> {
 }
 
 impl Comparison for Ascii<'_> {
-    fn fast(&self, _run: usize) -> usize {
+    fn fast(&self, _run: usize) -> usize
+        ensures { (result ≡ 0) ⊎ IsOkAnd (decode Encoding.Utf8 self.now.bytes.now)
+            (λ text. result ≡ length text % 2 ^ 64) }
+    {
         count(self.alloc, by_pieces(Encoding::Utf8), self.bytes)
     }
 
-    fn plain(&self, _run: usize) -> usize {
+    fn plain(&self, _run: usize) -> usize
+        ensures { (result ≡ 0) ⊎ (result ≡ length self.now.bytes.now) }
+    {
         plain::widened_by_pieces(self.alloc, self.bytes, PIECE).unwrap_or(0)
     }
 }

@@ -1,5 +1,5 @@
 //! Segmenting by nfg_segment: a text in one piece beside the same fed code point by code point.
-ghost use Rattle.std.specs.Prelude.{◌≡◌, ℕ, [], ◌∷◌, ◌++◌, length, replicate, chars, IfOk, OnOk};
+ghost use Rattle.std.specs.Prelude.{◌≡◌, ◌⊎◌, ℕ, [], ◌∷◌, ◌++◌, length, replicate, chars, IfOk, OnOk};
 ghost use Rattle.std.specs.List.{concat};
 ghost use Rattle.nfg_text.specs.Graphemes.{graphemes_of};
 ghost use Rattle.nfg_text.specs.Text.{IsText};
@@ -98,17 +98,23 @@ struct Pieces<'a> {
 
 impl Pieces<'_> {
     /// How many graphemes the text has in pieces of a length.
-    fn count_by(&self, piece_len: usize) -> usize {
+    fn count_by(&self, piece_len: usize) -> usize
+        ensures { (result ≡ 0) ⊎ (result ≡ length (graphemes_of self.now.text.now)) }
+    {
         segment(self.alloc, self.text.as_slice(), piece_len).unwrap_or(0)
     }
 }
 
 impl Comparison for Pieces<'_> {
-    fn fast(&self, _run: usize) -> usize {
+    fn fast(&self, _run: usize) -> usize
+        ensures { (result ≡ 0) ⊎ (result ≡ length (graphemes_of self.now.text.now)) }
+    {
         self.count_by(usize::MAX)
     }
 
-    fn plain(&self, _run: usize) -> usize {
+    fn plain(&self, _run: usize) -> usize
+        ensures { (result ≡ 0) ⊎ (result ≡ length (graphemes_of self.now.text.now)) }
+    {
         self.count_by(1)
     }
 }

@@ -1,5 +1,5 @@
 //! Loading by nfg_stream: beside the plain way, and a long text beside as many bytes of short ones.
-ghost use Rattle.std.specs.Prelude.{◌≡◌, ◌+◌, ◌^◌, ◌≤◌, List, ℕ, ◌++◌, length, IfOk, IfSome, IsOkAnd, OnOk};
+ghost use Rattle.std.specs.Prelude.{◌≡◌, ◌⊎◌, ◌+◌, ◌^◌, ◌≤◌, List, ℕ, ◌++◌, length, IfOk, IfSome, IsOkAnd, OnOk};
 ghost use Rattle.nfg_text.specs.Graphemes.{graphemes_of};
 ghost use Rattle.nfg_decode.specs.declared.encoding.Encoding.TheVariants.{Utf8};
 ghost use Rattle.nfg_decode.specs.Encoding.{decode};
@@ -43,7 +43,10 @@ fn load(alloc: Global, bytes: &[u8]) -> Result<u64, LoadError>
 }
 
 /// How many graphemes the bytes have, and none where they are refused.
-fn count(alloc: Global, bytes: &[u8]) -> usize {
+fn count(alloc: Global, bytes: &[u8]) -> usize
+    ensures { (result ≡ 0) ⊎ IsOkAnd (decode Utf8 bytes.now)
+        (λ text. result ≡ length (graphemes_of text)) }
+{
     if bytes.len() > MOST {
         return 0;
     }
@@ -61,7 +64,10 @@ fn load_plainly(alloc: Global, bytes: &[u8]) -> Option<usize>
     Some(numbers.len())
 }
 
-fn count_plainly(alloc: Global, bytes: &[u8]) -> usize {
+fn count_plainly(alloc: Global, bytes: &[u8]) -> usize
+    ensures { (result ≡ 0) ⊎ IsOkAnd (decode Utf8 bytes.now)
+        (λ text. result ≡ length (graphemes_of text)) }
+{
     if bytes.len() > MOST {
         return 0;
     }
@@ -76,11 +82,17 @@ struct Loading<'a> {
 }
 
 impl Comparison for Loading<'_> {
-    fn fast(&self, _run: usize) -> usize {
+    fn fast(&self, _run: usize) -> usize
+        ensures { (result ≡ 0) ⊎ IsOkAnd (decode Utf8 self.now.bytes.now)
+            (λ text. result ≡ length (graphemes_of text)) }
+    {
         count(self.alloc, self.bytes)
     }
 
-    fn plain(&self, _run: usize) -> usize {
+    fn plain(&self, _run: usize) -> usize
+        ensures { (result ≡ 0) ⊎ IsOkAnd (decode Utf8 self.now.bytes.now)
+            (λ text. result ≡ length (graphemes_of text)) }
+    {
         count_plainly(self.alloc, self.bytes)
     }
 }
