@@ -1,1 +1,4 @@
+pub mod ElementLemmas
+pub mod GraphemeLemmas
+pub mod SampleLemmas
 pub mod TextLemmas

@@ -1,11 +1,18 @@
 -- Parts of texts, and bytes that decode to one.
-use Rattle.std.proofs.Common.{◌≡◌, ℕ, ◌<◌, List, [], ◌∷◌, ◌++◌, get_or, take, drop, refl, sym, ap, ◌∙◌, subst, take-append-drop}
+use Rattle.std.proofs.Common.{◌≡◌, ℕ, ◌<◌, List, [], ◌∷◌, ◌++◌, get_or, take, drop, refl, sym, ap, ◌∙◌, subst, append_assoc, take-append-drop}
 use Rattle.std.proofs.lemmas.Bool.{and_from}
 use Rattle.std.proofs.lemmas.List.{get_or_default}
 use Rattle.std.specs.Char.{IsScalar}
+use Rattle.std.specs.Str.{chars}
+use Rattle.std.specs.Str.Lossy.{utf8_valid_len}
 use Rattle.nfg_text.specs.Text.{IsText}
 use Rattle.nfg_text.proofs.Proved.{parts_of_text}
-use Rattle.nfg_decode.specs.Encoding.{AreBytes}
+use Rattle.nfg_decode.specs.declared.encoding.Encoding.TheVariants.{Utf8, Utf16, Utf16Le, Utf16Be, Latin1}
+use Rattle.nfg_decode.specs.declared.encoding.Encoding.{Encoding}
+use Rattle.nfg_decode.specs.State.{GivesNext}
+use Rattle.nfg_decode.specs.Encoding.{AreBytes, decode, decoded_prefix}
+use Rattle.nfg_decode.specs.Utf8.{decode_utf8}
+use Rattle.nfg_decode.specs.Utf16.{decode_utf16, decode_marked}
 
 pub text_part : (n m : ℕ) (t : List ℕ) → IsText t → IsText (take n (drop m t))
 text_part n m t all =
@@ -29,3 +36,22 @@ text_front whole front back is all = ((parts_of_text front back).0 (subst IsText
 
 pub text_back : (whole front back : List ℕ) → whole ≡ front ++ back → IsText whole → IsText back
 text_back whole front back is all = ((parts_of_text front back).0 (subst IsText is all)).1
+
+-- nothing decodes to nothing
+pub decoded_none : (e : Encoding) → decoded_prefix e [] ≡ []
+unfolding decoded_prefix decode decode_utf8 decode_utf16 decode_marked utf8_valid_len chars
+decoded_none Utf8 = refl
+decoded_none Utf16 = refl
+decoded_none Utf16Le = refl
+decoded_none Utf16Be = refl
+decoded_none Latin1 = refl
+
+-- two pieces one after the other
+pub gives_on : (e : Encoding) (fed front piece old between new : List ℕ) → GivesNext e fed front old between
+    → GivesNext e (fed ++ front) piece between new → GivesNext e fed (front ++ piece) old new
+gives_on e fed front piece old between new first next = (
+  first.0 ++ next.0,
+  next.1 ∙ ap (λ l. l ++ next.0) first.1 ∙ append_assoc old first.0 next.0,
+  ap (decoded_prefix e) (sym (append_assoc fed front piece)) ∙ next.2 ∙ ap (λ l. l ++ next.0) first.2
+      ∙ append_assoc (decoded_prefix e fed) first.0 next.0,
+)

@@ -1,4 +1,8 @@
-//! Common fronts of blocks of nfg_block, beside a walk by `get`.
+//! Common fronts of blocks of nfg_block, beside a walk by `get`. Both answer the same.
+ghost use Rattle.std.specs.Prelude.{◌≡◌, ◌%◌, drop};
+ghost use Rattle.std.specs.List.{common_prefix_len};
+ghost use Rattle.std.specs.Ordering.{int_eq};
+
 use crate::timing::{Comparison, compare};
 use nfg_block::Block;
 use std::alloc::Global;
@@ -15,13 +19,19 @@ struct CommonFront<'a> {
 }
 
 impl Comparison for CommonFront<'_> {
-    fn fast(&self, run: usize) -> usize {
+    fn fast(&self, run: usize) -> usize
+        ensures { result ≡ common_prefix_len int_eq
+            (drop (run % 32) self.now.a.now.list) (drop (run % 32) self.now.b.now.list) }
+    {
         let len = self.a.len().min(self.b.len());
         let start = (run % 32).min(len);
         self.a.common_front(start, self.b, start, len - start)
     }
 
-    fn plain(&self, run: usize) -> usize {
+    fn plain(&self, run: usize) -> usize
+        ensures { result ≡ common_prefix_len int_eq
+            (drop (run % 32) self.now.a.now.list) (drop (run % 32) self.now.b.now.list) }
+    {
         let len = self.a.len().min(self.b.len());
         let start = (run % 32).min(len);
         for at in start..len {

@@ -1,6 +1,9 @@
 //! Decoding by nfg_decode: beside the plain widening loop, ever more bytes, and byte by byte.
-ghost use Rattle.std.specs.Prelude.{◌≡◌, ◌+◌, ◌^◌, ◌≤◌, length, OnOk};
-ghost use Rattle.nfg_decode.specs.Stream.{fed_count};
+ghost use Rattle.std.specs.Prelude.{◌≡◌, ◌⊎◌, ◌+◌, ◌%◌, ◌^◌, ◌≤◌, ℕ, List, ◌++◌, length, IfOk, IsOkAnd, OnOk};
+ghost use Rattle.nfg_decode.specs.declared.encoding.Encoding.{Encoding};
+ghost use Rattle.nfg_decode.specs.Encoding.{decode};
+ghost use Rattle.nfg_decode.specs.State.{GivesNext};
+ghost use Rattle.nfg_decode.specs.Stream.{HasRead, fed_count};
 
 use crate::plain;
 use crate::texts::{self, ByteOrder, LONG, MOST, PIECE, SHORT};
@@ -20,7 +23,9 @@ struct Feeding {
 }
 
 /// In pieces of 64 KiB, each of which finds an empty list.
-fn by_pieces(encoding: Encoding) -> Feeding {
+fn by_pieces(encoding: Encoding) -> Feeding
+    ensures { result.encoding ≡ encoding }
+{
     Feeding {
         encoding,
         piece_len: PIECE,
@@ -37,7 +42,12 @@ fn feed_part(
     into: &mut CodeList,
 ) -> Result<(), DecodeError>
     requires { fed_count stream.old + length part.now ≤ 2 ^ 32 }
-    ensures { OnOk result (fed_count stream.new ≡ fed_count stream.old + length part.now) }
+    ensures count { OnOk result (fed_count stream.new ≡ fed_count stream.old + length part.now) }
+    // In what follows, the stream has read `fed`.
+    ensures read { (e : Encoding) (fed : List ℕ) → HasRead stream.old e fed
+        → OnOk result (HasRead stream.new e (fed ++ part.now)) }
+    ensures codes { (e : Encoding) (fed : List ℕ) → HasRead stream.old e fed
+        → OnOk result (GivesNext e fed part.now into.old into.new) }
 {
     let mut rest = part;
     while !rest.is_empty() {
@@ -48,9 +58,11 @@ fn feed_part(
     Ok(())
 }
 
-/// Decodes the bytes, and answers how many code points they are.
+/// Decodes the bytes, and answers how many code points they are, in a number that may wrap.
 fn decode(alloc: Global, feeding: Feeding, bytes: &[u8]) -> Result<usize, DecodeError>
     requires { length bytes.now ≤ 2 ^ 32 }
+    ensures { IfOk result (λ codes. IsOkAnd (decode feeding.encoding bytes.now)
+        (λ text. codes ≡ length text % 2 ^ 64)) }
 {
     let mut into = CodeList::new(alloc);
     let mut stream = ByteStream::new(feeding.encoding);
@@ -68,7 +80,10 @@ fn decode(alloc: Global, feeding: Feeding, bytes: &[u8]) -> Result<usize, Decode
 }
 
 /// How many code points the bytes are, and none where they are refused.
-fn count(alloc: Global, feeding: Feeding, bytes: &[u8]) -> usize {
+fn count(alloc: Global, feeding: Feeding, bytes: &[u8]) -> usize
+    ensures { (result ≡ 0) ⊎ IsOkAnd (decode feeding.encoding bytes.now)
+        (λ text. result ≡ length text % 2 ^ 64) }
+{
     if bytes.len() > MOST {
         return 0;
     }
@@ -83,7 +98,10 @@ struct WholeAscii<'a> {
 }
 
 impl Comparison for WholeAscii<'_> {
-    fn fast(&self, _run: usize) -> usize {
+    fn fast(&self, _run: usize) -> usize
+        ensures { (result ≡ 0) ⊎ IsOkAnd (decode Encoding.Utf8 self.now.bytes.now)
+            (λ text. result ≡ length text % 2 ^ 64) }
+    {
         let feeding = Feeding {
             encoding: Encoding::Utf8,
             piece_len: PIECE,
@@ -92,7 +110,9 @@ impl Comparison for WholeAscii<'_> {
         count(self.alloc, feeding, self.bytes)
     }
 
-    fn plain(&self, _run: usize) -> usize {
+    fn plain(&self, _run: usize) -> usize
+        ensures { (result ≡ 0) ⊎ (result ≡ length self.now.bytes.now) }
+    {
         match plain::widened(self.alloc, self.bytes) {
             Ok(codes) => codes.len(),
             Err(_) => 0,
@@ -108,11 +128,16 @@ struct Ascii<'a> {
 }
 
 impl Comparison for Ascii<'_> {
-    fn fast(&self, _run: usize) -> usize {
+    fn fast(&self, _run: usize) -> usize
+        ensures { (result ≡ 0) ⊎ IsOkAnd (decode Encoding.Utf8 self.now.bytes.now)
+            (λ text. result ≡ length text % 2 ^ 64) }
+    {
         count(self.alloc, by_pieces(Encoding::Utf8), self.bytes)
     }
 
-    fn plain(&self, _run: usize) -> usize {
+    fn plain(&self, _run: usize) -> usize
+        ensures { (result ≡ 0) ⊎ (result ≡ length self.now.bytes.now) }
+    {
         plain::widened_by_pieces(self.alloc, self.bytes, PIECE).unwrap_or(0)
     }
 }

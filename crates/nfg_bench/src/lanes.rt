@@ -1,4 +1,10 @@
-//! The kernels of nfg_lanes, over 256 KiB in all.
+//! The kernels of nfg_lanes, over 256 KiB in all. Both ways to a row answer the same.
+ghost use Rattle.std.specs.Prelude.{◌≡◌, ◌%◌, negsuc, drop, if◌then◌else◌};
+ghost use Rattle.std.specs.Char.{is_ascii};
+ghost use Rattle.std.specs.List.{common_prefix_len, list_all, position_or_len, prefix_len};
+ghost use Rattle.std.specs.Ordering.{int_eq};
+ghost use Rattle.nfg_lanes.specs.Lanes.{common_suffix_len, is_narrow_grapheme};
+
 use crate::plain;
 use crate::timing::{Comparison, compare};
 use std::alloc::Global;
@@ -12,7 +18,9 @@ const BYTES: usize = 256 * 1024;
 const LETTER: u8 = b'a';
 
 // The list without a few elements at its front, so that no two runs in a row ask the same.
-fn from_run<T>(list: &[T], run: usize) -> &[T] {
+fn from_run<T>(list: &[T], run: usize) -> &[T]
+    ensures { result.now ≡ drop (run % 32) list.now }
+{
     let start = (run % 32).min(list.len());
     &list[start..]
 }
@@ -23,11 +31,15 @@ struct AsciiRun<'a> {
 }
 
 impl Comparison for AsciiRun<'_> {
-    fn fast(&self, run: usize) -> usize {
+    fn fast(&self, run: usize) -> usize
+        ensures { result ≡ prefix_len is_ascii (drop (run % 32) self.now.list.now) }
+    {
         nfg_lanes::ascii_run(from_run(self.list, run))
     }
 
-    fn plain(&self, run: usize) -> usize {
+    fn plain(&self, run: usize) -> usize
+        ensures { result ≡ prefix_len is_ascii (drop (run % 32) self.now.list.now) }
+    {
         plain::ascii_run(from_run(self.list, run))
     }
 }
@@ -38,11 +50,17 @@ struct FirstEqual8<'a> {
 }
 
 impl Comparison for FirstEqual8<'_> {
-    fn fast(&self, run: usize) -> usize {
+    fn fast(&self, run: usize) -> usize
+        ensures { result ≡ position_or_len (λ y. int_eq y (negsuc 0))
+            (drop (run % 32) self.now.list.now) }
+    {
         nfg_lanes::first_equal8(from_run(self.list, run), -1)
     }
 
-    fn plain(&self, run: usize) -> usize {
+    fn plain(&self, run: usize) -> usize
+        ensures { result ≡ position_or_len (λ y. int_eq y (negsuc 0))
+            (drop (run % 32) self.now.list.now) }
+    {
         plain::first_equal8(from_run(self.list, run), -1)
     }
 }
@@ -53,11 +71,17 @@ struct FirstEqual32<'a> {
 }
 
 impl Comparison for FirstEqual32<'_> {
-    fn fast(&self, run: usize) -> usize {
+    fn fast(&self, run: usize) -> usize
+        ensures { result ≡ position_or_len (λ y. int_eq y (negsuc 0))
+            (drop (run % 32) self.now.list.now) }
+    {
         nfg_lanes::first_equal32(from_run(self.list, run), -1)
     }
 
-    fn plain(&self, run: usize) -> usize {
+    fn plain(&self, run: usize) -> usize
+        ensures { result ≡ position_or_len (λ y. int_eq y (negsuc 0))
+            (drop (run % 32) self.now.list.now) }
+    {
         plain::first_equal32(from_run(self.list, run), -1)
     }
 }
@@ -69,11 +93,17 @@ struct CommonFront8<'a> {
 }
 
 impl Comparison for CommonFront8<'_> {
-    fn fast(&self, run: usize) -> usize {
+    fn fast(&self, run: usize) -> usize
+        ensures { result ≡ common_prefix_len int_eq
+            (drop (run % 32) self.now.a.now) (drop (run % 32) self.now.b.now) }
+    {
         nfg_lanes::common_front8(from_run(self.a, run), from_run(self.b, run))
     }
 
-    fn plain(&self, run: usize) -> usize {
+    fn plain(&self, run: usize) -> usize
+        ensures { result ≡ common_prefix_len int_eq
+            (drop (run % 32) self.now.a.now) (drop (run % 32) self.now.b.now) }
+    {
         plain::common_front8(from_run(self.a, run), from_run(self.b, run))
     }
 }
@@ -85,11 +115,17 @@ struct CommonFront32<'a> {
 }
 
 impl Comparison for CommonFront32<'_> {
-    fn fast(&self, run: usize) -> usize {
+    fn fast(&self, run: usize) -> usize
+        ensures { result ≡ common_prefix_len int_eq
+            (drop (run % 32) self.now.a.now) (drop (run % 32) self.now.b.now) }
+    {
         nfg_lanes::common_front32(from_run(self.a, run), from_run(self.b, run))
     }
 
-    fn plain(&self, run: usize) -> usize {
+    fn plain(&self, run: usize) -> usize
+        ensures { result ≡ common_prefix_len int_eq
+            (drop (run % 32) self.now.a.now) (drop (run % 32) self.now.b.now) }
+    {
         plain::common_front32(from_run(self.a, run), from_run(self.b, run))
     }
 }
@@ -101,11 +137,17 @@ struct CommonFrontMixed<'a> {
 }
 
 impl Comparison for CommonFrontMixed<'_> {
-    fn fast(&self, run: usize) -> usize {
+    fn fast(&self, run: usize) -> usize
+        ensures { result ≡ common_prefix_len int_eq
+            (drop (run % 32) self.now.a.now) (drop (run % 32) self.now.b.now) }
+    {
         nfg_lanes::common_front_mixed(from_run(self.a, run), from_run(self.b, run))
     }
 
-    fn plain(&self, run: usize) -> usize {
+    fn plain(&self, run: usize) -> usize
+        ensures { result ≡ common_prefix_len int_eq
+            (drop (run % 32) self.now.a.now) (drop (run % 32) self.now.b.now) }
+    {
         plain::common_front_mixed(from_run(self.a, run), from_run(self.b, run))
     }
 }
@@ -117,11 +159,17 @@ struct CommonBack32<'a> {
 }
 
 impl Comparison for CommonBack32<'_> {
-    fn fast(&self, run: usize) -> usize {
+    fn fast(&self, run: usize) -> usize
+        ensures { result ≡ common_suffix_len int_eq
+            (drop (run % 32) self.now.a.now) (drop (run % 32) self.now.b.now) }
+    {
         nfg_lanes::common_back32(from_run(self.a, run), from_run(self.b, run))
     }
 
-    fn plain(&self, run: usize) -> usize {
+    fn plain(&self, run: usize) -> usize
+        ensures { result ≡ common_suffix_len int_eq
+            (drop (run % 32) self.now.a.now) (drop (run % 32) self.now.b.now) }
+    {
         plain::common_back32(from_run(self.a, run), from_run(self.b, run))
     }
 }
@@ -132,11 +180,17 @@ struct NarrowFits<'a> {
 }
 
 impl Comparison for NarrowFits<'_> {
-    fn fast(&self, run: usize) -> usize {
+    fn fast(&self, run: usize) -> usize
+        ensures { result
+            ≡ (if list_all is_narrow_grapheme (drop (run % 32) self.now.list.now) then 1 else 0) }
+    {
         nfg_lanes::narrow_fits(from_run(self.list, run)) as usize
     }
 
-    fn plain(&self, run: usize) -> usize {
+    fn plain(&self, run: usize) -> usize
+        ensures { result
+            ≡ (if list_all is_narrow_grapheme (drop (run % 32) self.now.list.now) then 1 else 0) }
+    {
         plain::narrow_fits(from_run(self.list, run)) as usize
     }
 }

@@ -1,4 +1,7 @@
 //! Segmenting by nfg_segment: a text in one piece beside the same fed code point by code point.
+ghost use Rattle.std.specs.Prelude.{◌≡◌, ◌⊎◌, ℕ, [], ◌∷◌, ◌++◌, length, replicate, chars, IfOk, OnOk};
+ghost use Rattle.std.specs.List.{concat};
+ghost use Rattle.nfg_text.specs.Graphemes.{graphemes_of};
 ghost use Rattle.nfg_text.specs.Text.{IsText};
 
 use crate::texts;
@@ -31,31 +34,39 @@ impl Model for CodePoints {
 
 impl CodePoints {
     /// A front, and behind it the sample again and again.
-    fn repeated(alloc: Global, front: &str, sample: &str) -> Result<CodePoints, AllocError> {
+    fn repeated(alloc: Global, front: &str, sample: &str) -> Result<CodePoints, AllocError>
+        ensures { IfOk result (λ text. (n : ℕ)
+            × (text ≡ chars front.now ++ concat (replicate n (chars sample.now)))) }
+    {
         let mut text = CodePoints {
             codes: Vec::new(alloc),
         };
         text.append(front)?;
-        for _ in 0..COUNT / sample.chars().count().max(1) {
+        for _k in 0..COUNT / sample.chars().count().max(1) {
             text.append(sample)?;
         }
         Ok(text)
     }
 
-    fn append(&mut self, part: &str) -> Result<(), AllocError> {
+    fn append(&mut self, part: &str) -> Result<(), AllocError>
+        ensures { OnOk result (self.new ≡ self.old ++ chars part.now) }
+    {
         for c in part.chars() {
             self.push(c)?;
         }
         Ok(())
     }
 
-    fn push(&mut self, c: char) -> Result<(), AllocError> {
+    fn push(&mut self, c: char) -> Result<(), AllocError>
+        ensures { OnOk result (self.new ≡ self.old ++ c ∷ []) }
+    {
         self.codes.push(c as u32)?;
         Ok(())
     }
 
     fn as_slice(&self) -> &[u32]
-        ensures { IsText result.now }
+        ensures codes { result.now ≡ self.now }
+        ensures text { IsText result.now }
     {
         self.codes.as_slice()
     }
@@ -64,6 +75,7 @@ impl CodePoints {
 /// Feeds the text in pieces of a length, and answers how many graphemes it has.
 fn segment(alloc: Global, text: &[u32], piece_len: usize) -> Result<usize, AllocError>
     requires { IsText text.now }
+    ensures { IfOk result (λ count. count ≡ length (graphemes_of text.now)) }
 {
     let mut clusters = Clusters::new(alloc);
     let mut segmenter = Segmenter::new(alloc);
@@ -86,17 +98,23 @@ struct Pieces<'a> {
 
 impl Pieces<'_> {
     /// How many graphemes the text has in pieces of a length.
-    fn count_by(&self, piece_len: usize) -> usize {
+    fn count_by(&self, piece_len: usize) -> usize
+        ensures { (result ≡ 0) ⊎ (result ≡ length (graphemes_of self.now.text.now)) }
+    {
         segment(self.alloc, self.text.as_slice(), piece_len).unwrap_or(0)
     }
 }
 
 impl Comparison for Pieces<'_> {
-    fn fast(&self, _run: usize) -> usize {
+    fn fast(&self, _run: usize) -> usize
+        ensures { (result ≡ 0) ⊎ (result ≡ length (graphemes_of self.now.text.now)) }
+    {
         self.count_by(usize::MAX)
     }
 
-    fn plain(&self, _run: usize) -> usize {
+    fn plain(&self, _run: usize) -> usize
+        ensures { (result ≡ 0) ⊎ (result ≡ length (graphemes_of self.now.text.now)) }
+    {
         self.count_by(1)
     }
 }

@@ -1,4 +1,8 @@
 //! Strings in strands: parts of long and of short ones, and searches across strands beside a walk.
+ghost use Rattle.std.specs.Prelude.{◌≡◌, ◌%◌, negsuc, drop};
+ghost use Rattle.std.specs.List.{common_prefix_len, position_or_len};
+ghost use Rattle.std.specs.Ordering.{int_eq};
+
 use crate::timing::{Comparison, compare, compare_few};
 use nfg_ops::substring;
 use nfg_strand::NString;
@@ -97,7 +101,11 @@ impl Comparison for Finding<'_> {
         self.string.find(from, len, -1).unwrap_or(len) as usize
     }
 
-    fn plain(&self, _run: usize) -> usize {
+    fn plain(&self, _run: usize) -> usize
+        ensures { result
+            ≡ position_or_len (λ y. int_eq y (negsuc 0)) self.now.string.now.graphemes }
+    {
+        let len = self.string.len() as usize;
         let mut at: usize = 0;
         for grapheme in self.string.iter() {
             if grapheme == -1 {
@@ -105,7 +113,7 @@ impl Comparison for Finding<'_> {
             }
             at = at.wrapping_add(1);
         }
-        at
+        len
     }
 }
 
@@ -117,13 +125,20 @@ struct CommonFront<'a> {
 }
 
 impl Comparison for CommonFront<'_> {
-    fn fast(&self, run: usize) -> usize {
+    fn fast(&self, run: usize) -> usize
+        ensures { result ≡ common_prefix_len int_eq
+            (drop (run % 32) self.now.a.now.graphemes) (drop (run % 32) self.now.b.now.graphemes) }
+    {
         let len = self.a.len().min(self.b.len());
         let start = (run as u64 % 32).min(len);
         self.a.common_front(start, self.b, start, len - start) as usize
     }
 
-    fn plain(&self, _run: usize) -> usize {
+    fn plain(&self, _run: usize) -> usize
+        ensures { result
+            ≡ common_prefix_len int_eq self.now.a.now.graphemes self.now.b.now.graphemes }
+    {
+        let len = self.a.len().min(self.b.len()) as usize;
         let mut at: usize = 0;
         for (x, y) in self.a.iter().zip(self.b.iter()) {
             if x != y {
@@ -131,7 +146,7 @@ impl Comparison for CommonFront<'_> {
             }
             at = at.wrapping_add(1);
         }
-        at
+        len
     }
 }
 

@@ -1,19 +1,24 @@
 //! Loading by nfg_stream: beside the plain way, and a long text beside as many bytes of short ones.
-ghost use Rattle.std.specs.Prelude.{◌+◌, ◌^◌, ◌≤◌, length};
-ghost use Rattle.nfg_stream.specs.Stream.{fed_count};
+ghost use Rattle.std.specs.Prelude.{◌≡◌, ◌⊎◌, ◌+◌, ◌^◌, ◌≤◌, List, ℕ, ◌++◌, length, IfOk, IfSome, IsOkAnd, OnOk};
+ghost use Rattle.nfg_text.specs.Graphemes.{graphemes_of};
+ghost use Rattle.nfg_decode.specs.declared.encoding.Encoding.TheVariants.{Utf8};
+ghost use Rattle.nfg_decode.specs.Encoding.{decode};
+ghost use Rattle.nfg_stream.specs.Stream.{HasRead, fed_count};
 
 use crate::pipeline;
 use crate::texts::{self, LONG, MOST, PIECE, SHORT};
 use crate::timing::{Comparison, compare_few};
 use nfg_decode::Encoding;
 use nfg_stream::{DecodeStream, LoadError};
-use std::alloc::{AllocError, Global};
+use std::alloc::Global;
 use std::io;
 use std::rt::Clock;
 
 /// Feeds the bytes in pieces of 64 KiB.
 fn feed_all(alloc: Global, stream: &mut DecodeStream, bytes: &[u8]) -> Result<(), LoadError>
     requires { fed_count stream.old + length bytes.now ≤ 2 ^ 32 }
+    ensures { (fed : List ℕ) → HasRead stream.old Utf8 fed
+        → OnOk result (HasRead stream.new Utf8 (fed ++ bytes.now)) }
 {
     let mut rest = bytes;
     while !rest.is_empty() {
@@ -27,6 +32,8 @@ fn feed_all(alloc: Global, stream: &mut DecodeStream, bytes: &[u8]) -> Result<()
 /// Loads a text over a table of its own, and answers how many graphemes it has.
 fn load(alloc: Global, bytes: &[u8]) -> Result<u64, LoadError>
     requires { length bytes.now ≤ 2 ^ 32 }
+    ensures { IfOk result (λ count. IsOkAnd (decode Utf8 bytes.now)
+        (λ text. count ≡ length (graphemes_of text))) }
 {
     let (table, mut pass) = pipeline::new_table(alloc)?;
     let mut stream = DecodeStream::new(alloc, Encoding::Utf8);
@@ -36,23 +43,31 @@ fn load(alloc: Global, bytes: &[u8]) -> Result<u64, LoadError>
 }
 
 /// How many graphemes the bytes have, and none where they are refused.
-fn count(alloc: Global, bytes: &[u8]) -> usize {
+fn count(alloc: Global, bytes: &[u8]) -> usize
+    ensures { (result ≡ 0) ⊎ IsOkAnd (decode Utf8 bytes.now)
+        (λ text. result ≡ length (graphemes_of text)) }
+{
     if bytes.len() > MOST {
         return 0;
     }
     load(alloc, bytes).unwrap_or(0) as usize
 }
 
-/// The same by the plain way.
-fn load_plainly(alloc: Global, bytes: &[u8]) -> Result<usize, AllocError>
+/// The same by the plain way, if the bytes are a text and there is memory for it.
+fn load_plainly(alloc: Global, bytes: &[u8]) -> Option<usize>
     requires { length bytes.now ≤ 2 ^ 32 }
+    ensures { IfSome result (λ count. IsOkAnd (decode Utf8 bytes.now)
+        (λ text. count ≡ length (graphemes_of text))) }
 {
-    let (table, mut pass) = pipeline::new_table(alloc)?;
+    let (table, mut pass) = pipeline::new_table(alloc).ok()?;
     let numbers = pipeline::load(alloc, &table, &mut pass, bytes)?;
-    Ok(numbers.len())
+    Some(numbers.len())
 }
 
-fn count_plainly(alloc: Global, bytes: &[u8]) -> usize {
+fn count_plainly(alloc: Global, bytes: &[u8]) -> usize
+    ensures { (result ≡ 0) ⊎ IsOkAnd (decode Utf8 bytes.now)
+        (λ text. result ≡ length (graphemes_of text)) }
+{
     if bytes.len() > MOST {
         return 0;
     }
@@ -67,11 +82,17 @@ struct Loading<'a> {
 }
 
 impl Comparison for Loading<'_> {
-    fn fast(&self, _run: usize) -> usize {
+    fn fast(&self, _run: usize) -> usize
+        ensures { (result ≡ 0) ⊎ IsOkAnd (decode Utf8 self.now.bytes.now)
+            (λ text. result ≡ length (graphemes_of text)) }
+    {
         count(self.alloc, self.bytes)
     }
 
-    fn plain(&self, _run: usize) -> usize {
+    fn plain(&self, _run: usize) -> usize
+        ensures { (result ≡ 0) ⊎ IsOkAnd (decode Utf8 self.now.bytes.now)
+            (λ text. result ≡ length (graphemes_of text)) }
+    {
         count_plainly(self.alloc, self.bytes)
     }
 }

@@ -1,4 +1,7 @@
 //! The texts that are timed: sentences of several scripts, again and again up to a size.
+ghost use Rattle.std.specs.Prelude.{◌≡◌, ◌≤◌, ◌*◌, ◌/◌, length, max, replicate, IfOk};
+ghost use Rattle.std.specs.List.{concat};
+
 use std::alloc::{AllocError, Global};
 
 /// The bytes of a piece.
@@ -67,15 +70,22 @@ pub const EMOJI: &str = "\
 \u{1F389} \u{1F937}\u{1F3FB}\u{200D}\u{2640}\u{FE0F}\n";
 
 /// How many bytes as many whole samples have as the size has room for.
-pub fn whole_len(sample: &[u8], size: usize) -> usize {
+pub fn whole_len(sample: &[u8], size: usize) -> usize
+    ensures whole { result ≡ size / max (length sample.now) 1 * max (length sample.now) 1 }
+    ensures within { result ≤ size }
+{
     size - size % sample.len().max(1)
 }
 
 /// The sample again and again, as many whole ones as the size has room for.
-pub fn repeated(alloc: Global, sample: &[u8], size: usize) -> Result<Vec<u8>, AllocError> {
+pub fn repeated(alloc: Global, sample: &[u8], size: usize) -> Result<Vec<u8>, AllocError>
+    ensures samples { IfOk result (λ bytes. bytes.items
+        ≡ concat (replicate (size / max (length sample.now) 1) sample.now)) }
+    ensures within { IfOk result (λ bytes. length bytes.items ≤ size) }
+{
     let mut bytes = Vec::new(alloc);
     bytes.reserve(size)?;
-    for _ in 0..size / sample.len().max(1) {
+    for _k in 0..size / sample.len().max(1) {
         bytes.extend_from_slice(sample)?;
     }
     Ok(bytes)

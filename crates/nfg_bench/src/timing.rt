@@ -1,5 +1,6 @@
 //! Medians of repeated timings, and the line that is printed of them.
-ghost use Rattle.std.specs.Prelude.{◌<◌, ◌≤◌};
+ghost use Rattle.std.specs.Prelude.{◌≡◌, ◌<◌, ◌≤◌, ◌/◌, ◌^◌, length, slice_index_or, IfOk};
+ghost use Rattle.std.specs.List.Sorted.{IsNonDecreasing, IsPermutation};
 
 use std::io;
 use std::rt::Clock;
@@ -23,7 +24,9 @@ struct Timings {
 /// More than any timing, and small enough for what is computed from it.
 const LONGEST: u64 = 1 << 40;
 
-fn nanoseconds(clock: &impl Clock, start: Instant) -> io::Result<u64> {
+fn nanoseconds(clock: &impl Clock, start: Instant) -> io::Result<u64>
+    ensures { IfOk result (λ passed. passed ≤ 2 ^ 40) }
+{
     let passed = start.elapsed(clock)?.as_nanos();
     Ok(passed.min(LONGEST as u128) as u64)
 }
@@ -33,6 +36,17 @@ pub trait Comparison {
     fn fast(&self, run: usize) -> usize;
 
     fn plain(&self, run: usize) -> usize;
+}
+
+/// The middle one of the times, which it puts in order.
+fn median(times: &mut [u64]) -> u64
+    requires { 0 < length times.old }
+    ensures same_times { IsPermutation times.old times.new }
+    ensures in_order { IsNonDecreasing times.new }
+    ensures middle { result ≡ slice_index_or times.new (length times.old / 2) 0 }
+{
+    times.sort_unstable();
+    times[times.len() / 2]
 }
 
 /// Times both ways in turn, so that they share what else the machine does.
@@ -52,11 +66,9 @@ fn in_turn<C: Comparison>(clock: &impl Clock, work: &C, runs: usize) -> io::Resu
         plain_times[run] = nanoseconds(clock, start)?;
         answered = answered.wrapping_add(answer).wrapping_add(other);
     }
-    fast_times[..runs].sort_unstable();
-    plain_times[..runs].sort_unstable();
     Ok(Timings {
-        fast: fast_times[runs / 2],
-        plain: plain_times[runs / 2],
+        fast: median(&mut fast_times[..runs]),
+        plain: median(&mut plain_times[..runs]),
         answered,
     })
 }
