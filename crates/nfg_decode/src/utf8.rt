@@ -1,14 +1,15 @@
 //! UTF-8, checked by `simdutf8`.
 
-ghost use Rattle.std.specs.Prelude.{◌≡◌, ◌+◌, ◌-◌, ◌*◌, ◌<◌, ◌≤◌, ◌⊎◌, [], ◌∷◌, ◌++◌, length, take, Ok, IfOk, IfSome, OnOk, OnErr, MatchBool, IsUtf8, chars};
+ghost use Rattle.std.specs.Prelude.{◌≡◌, ◌+◌, ◌-◌, ◌*◌, ◌^◌, ◌<◌, ◌≤◌, ◌⊎◌, [], ◌∷◌, ◌++◌, length, take, slice_index, Ok, IfOk, IfSome, OnOk, OnErr, MatchBool, IsUtf8, chars};
+ghost use Rattle.std.specs.List.{list_all};
 ghost use Rattle.std.specs.Str.{IsAscii, IsCharBoundary};
 ghost use Rattle.std.specs.Str.Lossy.{second_byte_min, second_byte_max};
-ghost use Rattle.std.specs.Bool.{OnTrue};
+ghost use Rattle.std.specs.Bool.{OnFalse, OnTrue};
 ghost use Rattle.nfg_decode.specs.Encoding.{decode};
 ghost use Rattle.nfg_decode.specs.Reads.{Grew, Reads};
 ghost use Rattle.nfg_decode.specs.Step.{StepsTo};
 ghost use Rattle.nfg_decode.specs.Tail.{bytes_of};
-ghost use Rattle.nfg_decode.specs.Utf8.{IsFirst};
+ghost use Rattle.nfg_decode.specs.Utf8.{IsFirst, IsFront, is_three_lead};
 ghost use Rattle.nfg_decode.specs.declared.encoding.Encoding.TheVariants.{Utf8};
 
 use crate::part::widen;
@@ -18,6 +19,7 @@ use crate::tail::Tail;
 use nfg_text::CodeList;
 use simdutf8::compat::from_utf8;
 use std::alloc::AllocError;
+use std::simd::prelude::*;
 
 /// Whether each byte is below 80.
 fn is_ascii(bytes: &[u8]) -> bool
@@ -102,7 +104,71 @@ fn first_code(text: &[u8]) -> (u32, usize)
     (code_of_four(a, text[1], text[2], text[3]), 4)
 }
 
-/// The same, sequence by sequence.
+/// Whether four sequences of three bytes come first. Then puts their code points into the buffer.
+#[inline(always)]
+fn fill_four(text: &[u8], codes: &mut [u32]) -> bool
+    requires text { IsUtf8 text.now }
+    requires source { 16 ≤ length text.now }
+    requires room { 4 ≤ length codes.old }
+    ensures leads { result ≡ list_all is_three_lead
+        (slice_index text.now 0 ∷ slice_index text.now 3 ∷ slice_index text.now 6 ∷ slice_index text.now 9 ∷ []) }
+    ensures front { OnTrue result (IsFront text.now 12 (take 4 codes.new)) }
+    ensures unchanged { OnFalse result (codes.new ≡ codes.old) }
+{
+    let block = u8x16::from_slice(text);
+    let first = block.swizzle([0, 3, 6, 9]).cast::<u32>() - u32x4::splat(0xE0);
+    if first.simd_ge(u32x4::splat(0x10)).to_bitmask() != 0 {
+        return false;
+    }
+    let second = block.swizzle([1, 4, 7, 10]).cast::<u32>();
+    let third = block.swizzle([2, 5, 8, 11]).cast::<u32>();
+    let sum = first * u32x4::splat(0x1000) + second * u32x4::splat(0x40) + third;
+    (sum - u32x4::splat(0x2080)).copy_to_slice(codes);
+    true
+}
+
+/// Takes four sequences of three bytes at a time from the front of a text, as long as they come and are
+/// not near the end, and answers how many fours.
+fn fill_fours(text: &[u8], codes: &mut [u32]) -> usize
+    requires text { IsUtf8 text.now }
+    requires room { length text.now ≤ length codes.old }
+    ensures { IsFront text.now (result * 12) (take (result * 4) codes.new) }
+{
+    let mut fours = 0;
+    while fours * 12 + 16 <= text.len() && fill_four(&text[fours * 12..], &mut codes[fours * 4..]) {
+        fours += 1;
+    }
+    fours
+}
+
+/// So many sequences of three bytes in a row, before the next ones are tried by fours: a try that
+/// fails costs more than it can win, and words of Korean or Hindi are short.
+const ROW: usize = 4;
+
+/// The row with a sequence of this length behind it.
+#[inline(always)]
+fn longer_row(row: usize, len: usize) -> usize
+    requires { row < 2 ^ 63 }
+    ensures { result ≤ row + 1 }
+{
+    if len == 3 { row + 1 } else { 0 }
+}
+
+/// The same, where a row is long enough.
+#[inline(always)]
+fn fill_behind(row: usize, text: &[u8], codes: &mut [u32]) -> usize
+    requires text { IsUtf8 text.now }
+    requires room { length text.now ≤ length codes.old }
+    ensures { IsFront text.now (result * 12) (take (result * 4) codes.new) }
+{
+    if row == ROW {
+        fill_fours(text, codes)
+    } else {
+        0
+    }
+}
+
+/// The same, sequence by sequence, and by fours behind a row of sequences of three bytes.
 fn fill_codes(text: &str, codes: &mut [u32]) -> usize
     requires { length text.now ≤ length codes.old }
     ensures within { result ≤ length codes.new }
@@ -111,11 +177,16 @@ fn fill_codes(text: &str, codes: &mut [u32]) -> usize
     let bytes = text.as_bytes();
     let mut at = 0;
     let mut n = 0;
+    let mut row = 0;
     while at < bytes.len() {
         let (code, len) = first_code(&bytes[at..]);
         codes[n] = code;
         n += 1;
         at += len;
+        row = longer_row(row, len);
+        let fours = fill_behind(row, &bytes[at..], &mut codes[n..]);
+        n += fours * 4;
+        at += fours * 12;
     }
     n
 }
