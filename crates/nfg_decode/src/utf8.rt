@@ -1,6 +1,6 @@
 //! UTF-8, checked by `simdutf8`.
 
-ghost use Rattle.std.specs.Prelude.{◌≡◌, ◌+◌, ◌-◌, ◌*◌, ◌^◌, ◌<◌, ◌≤◌, ◌⊎◌, [], ◌∷◌, ◌++◌, length, take, slice_index, Ok, IfOk, IfSome, OnOk, OnErr, MatchBool, IsUtf8, chars};
+ghost use Rattle.std.specs.Prelude.{◌≡◌, ◌+◌, ◌-◌, ◌*◌, ◌<◌, ◌≤◌, ◌⊎◌, [], ◌∷◌, ◌++◌, length, take, slice_index, Ok, IfOk, IfSome, OnOk, OnErr, MatchBool, IsUtf8, chars};
 ghost use Rattle.std.specs.List.{list_all};
 ghost use Rattle.std.specs.Str.{IsAscii, IsCharBoundary};
 ghost use Rattle.std.specs.Str.Lossy.{second_byte_min, second_byte_max};
@@ -30,20 +30,6 @@ fn is_ascii(bytes: &[u8]) -> bool
         most = most.max(*byte);
     }
     most < 0x80
-}
-
-/// Puts the code points of a text into the buffer, and answers how many they are.
-fn fill(text: &str, codes: &mut [u32]) -> usize
-    requires { length text.now ≤ length codes.old }
-    ensures within { result ≤ length codes.new }
-    ensures codes { take result codes.new ≡ chars text.now }
-{
-    let bytes = text.as_bytes();
-    if is_ascii(bytes) {
-        widen(bytes, &mut codes[..bytes.len()]);
-        return bytes.len();
-    }
-    fill_codes(text, codes)
 }
 
 /// Whether the byte begins a sequence of three bytes, where it begins one.
@@ -129,6 +115,7 @@ fn fill_four(text: &[u8], codes: &mut [u32]) -> bool
 
 /// Takes four sequences of three bytes at a time from the front of a text, as long as they come and are
 /// not near the end, and answers how many fours.
+#[inline(always)]
 fn fill_fours(text: &[u8], codes: &mut [u32]) -> usize
     requires text { IsUtf8 text.now }
     requires room { length text.now ≤ length codes.old }
@@ -141,34 +128,51 @@ fn fill_fours(text: &[u8], codes: &mut [u32]) -> usize
     fours
 }
 
-/// So many sequences of three bytes in a row, before the next ones are tried by fours: a try that
-/// fails costs more than it can win, and words of Korean or Hindi are short.
-const ROW: usize = 4;
-
-/// The row with a sequence of this length behind it.
+/// Takes sequence by sequence from the front of a text, through the first that has not three bytes, and
+/// answers how many bytes and how many code points.
 #[inline(always)]
-fn longer_row(row: usize, len: usize) -> usize
-    requires { row < 2 ^ 63 }
-    ensures { result ≤ row + 1 }
-{
-    if len == 3 { row + 1 } else { 0 }
-}
-
-/// The same, where a row is long enough.
-#[inline(always)]
-fn fill_behind(row: usize, text: &[u8], codes: &mut [u32]) -> usize
+fn fill_through_other(text: &[u8], codes: &mut [u32]) -> (usize, usize)
     requires text { IsUtf8 text.now }
     requires room { length text.now ≤ length codes.old }
-    ensures { IsFront text.now (result * 12) (take (result * 4) codes.new) }
+    ensures some { 0 < length text.now → 0 < result.0 }
+    ensures most { result.1 ≤ result.0 }
+    ensures front { IsFront text.now result.0 (take result.1 codes.new) }
 {
-    if row == ROW {
-        fill_fours(text, codes)
-    } else {
-        0
+    let mut at = 0;
+    let mut n = 0;
+    let mut last_len = 3;
+    while at < text.len() && last_len == 3 {
+        let (code, len) = first_code(&text[at..]);
+        codes[n] = code;
+        n += 1;
+        at += len;
+        last_len = len;
     }
+    (at, n)
 }
 
-/// The same, sequence by sequence, and by fours behind a row of sequences of three bytes.
+/// Puts the code points of a text into the buffer, by fours where it can, and answers how many they are.
+#[inline(never)]
+fn fill_by_fours(text: &str, codes: &mut [u32]) -> usize
+    requires { length text.now ≤ length codes.old }
+    ensures within { result ≤ length codes.new }
+    ensures codes { take result codes.new ≡ chars text.now }
+{
+    let bytes = text.as_bytes();
+    let mut at = 0;
+    let mut n = 0;
+    while at < bytes.len() {
+        let fours = fill_fours(&bytes[at..], &mut codes[n..]);
+        at += fours * 12;
+        n += fours * 4;
+        let (len, count) = fill_through_other(&bytes[at..], &mut codes[n..]);
+        at += len;
+        n += count;
+    }
+    n
+}
+
+/// The same, sequence by sequence.
 fn fill_codes(text: &str, codes: &mut [u32]) -> usize
     requires { length text.now ≤ length codes.old }
     ensures within { result ≤ length codes.new }
@@ -177,18 +181,50 @@ fn fill_codes(text: &str, codes: &mut [u32]) -> usize
     let bytes = text.as_bytes();
     let mut at = 0;
     let mut n = 0;
-    let mut row = 0;
     while at < bytes.len() {
         let (code, len) = first_code(&bytes[at..]);
         codes[n] = code;
         n += 1;
         at += len;
-        row = longer_row(row, len);
-        let fours = fill_behind(row, &bytes[at..], &mut codes[n..]);
-        n += fours * 4;
-        at += fours * 12;
     }
     n
+}
+
+/// Bytes at the front of a text that tell how it is read.
+const SAMPLE: usize = 128;
+
+/// So many of them begin a sequence of three bytes where at most five are of others: as in Chinese and
+/// Japanese, and not in Korean or Hindi, whose words are too short to be read by fours.
+const MOST_LEADS: u8 = 41;
+
+/// Whether nearly all sequences have three bytes, by the sample. Either answer is right: it picks
+/// the faster way to the same codes.
+fn is_nearly_all_threes(bytes: &[u8]) -> bool {
+    if bytes.len() < SAMPLE {
+        return false;
+    }
+    let mut leads = 0u8;
+    for at in 0..SAMPLE {
+        leads += u8::from(leads_three(bytes[at]));
+    }
+    leads >= MOST_LEADS
+}
+
+/// Puts the code points of a text into the buffer, and answers how many they are.
+fn fill(text: &str, codes: &mut [u32]) -> usize
+    requires { length text.now ≤ length codes.old }
+    ensures within { result ≤ length codes.new }
+    ensures codes { take result codes.new ≡ chars text.now }
+{
+    let bytes = text.as_bytes();
+    if is_ascii(bytes) {
+        widen(bytes, &mut codes[..bytes.len()]);
+        return bytes.len();
+    }
+    if is_nearly_all_threes(bytes) {
+        return fill_by_fours(text, codes);
+    }
+    fill_codes(text, codes)
 }
 
 /// How many bytes at the front of a text are whole characters and fit the room.

@@ -1,12 +1,13 @@
-use Rattle.std.proofs.Common.{◌+◌, ◌-◌, ◌≤◌, length, take}
-use Rattle.nfg_decode.specs.Utf8.{IsFront}
+use Rattle.std.proofs.Common.{◌≡◌, ◌+◌, ◌-◌, ◌≤◌, ◌++◌, length, take, drop, IsUtf8}
+use Rattle.std.specs.Str.{chars}
 use Rattle.nfg_decode.proofs.utf8.fill_codes.Given as goal
 
 abbrev pub invariant-loop-at : goal.invariant-loop-at
 invariant-loop-at l = record {
-  front : IsFront l.bytes l.at (take l.n l.codes);
+  within : l.at ≤ length l.bytes;
+  text : IsUtf8 (drop l.at l.bytes);
   room : l.n + (length l.bytes - l.at) ≤ length l.codes;
-  row : l.row ≤ l.n;
+  codes : take l.n l.codes ++ chars (drop l.at l.bytes) ≡ chars l.text;
 }
 
 abbrev pub decreases-loop-at : goal.decreases-loop-at
