@@ -1,4 +1,5 @@
 pub mod Examples
+pub mod FrontLemmas
 pub mod LawLemmas
 pub mod MarkLemmas
 pub mod LoneLemmas

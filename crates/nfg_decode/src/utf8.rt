@@ -1,14 +1,15 @@
 //! UTF-8, checked by `simdutf8`.
 
-ghost use Rattle.std.specs.Prelude.{◌≡◌, ◌+◌, ◌-◌, ◌*◌, ◌<◌, ◌≤◌, ◌⊎◌, [], ◌∷◌, ◌++◌, length, take, Ok, IfOk, IfSome, OnOk, OnErr, MatchBool, IsUtf8, chars};
+ghost use Rattle.std.specs.Prelude.{◌≡◌, ◌+◌, ◌-◌, ◌*◌, ◌<◌, ◌≤◌, ◌⊎◌, [], ◌∷◌, ◌++◌, length, take, slice_index, Ok, IfOk, IfSome, OnOk, OnErr, MatchBool, IsUtf8, chars};
+ghost use Rattle.std.specs.List.{list_all};
 ghost use Rattle.std.specs.Str.{IsAscii, IsCharBoundary};
 ghost use Rattle.std.specs.Str.Lossy.{second_byte_min, second_byte_max};
-ghost use Rattle.std.specs.Bool.{OnTrue};
+ghost use Rattle.std.specs.Bool.{OnFalse, OnTrue};
 ghost use Rattle.nfg_decode.specs.Encoding.{decode};
 ghost use Rattle.nfg_decode.specs.Reads.{Grew, Reads};
 ghost use Rattle.nfg_decode.specs.Step.{StepsTo};
 ghost use Rattle.nfg_decode.specs.Tail.{bytes_of};
-ghost use Rattle.nfg_decode.specs.Utf8.{IsFirst};
+ghost use Rattle.nfg_decode.specs.Utf8.{IsFirst, IsFront, is_three_lead};
 ghost use Rattle.nfg_decode.specs.declared.encoding.Encoding.TheVariants.{Utf8};
 
 use crate::part::widen;
@@ -18,6 +19,7 @@ use crate::tail::Tail;
 use nfg_text::CodeList;
 use simdutf8::compat::from_utf8;
 use std::alloc::AllocError;
+use std::simd::prelude::*;
 
 /// Whether each byte is below 80.
 fn is_ascii(bytes: &[u8]) -> bool
@@ -28,20 +30,6 @@ fn is_ascii(bytes: &[u8]) -> bool
         most = most.max(*byte);
     }
     most < 0x80
-}
-
-/// Puts the code points of a text into the buffer, and answers how many they are.
-fn fill(text: &str, codes: &mut [u32]) -> usize
-    requires { length text.now ≤ length codes.old }
-    ensures within { result ≤ length codes.new }
-    ensures codes { take result codes.new ≡ chars text.now }
-{
-    let bytes = text.as_bytes();
-    if is_ascii(bytes) {
-        widen(bytes, &mut codes[..bytes.len()]);
-        return bytes.len();
-    }
-    fill_codes(text, codes)
 }
 
 /// Whether the byte begins a sequence of three bytes, where it begins one.
@@ -102,6 +90,88 @@ fn first_code(text: &[u8]) -> (u32, usize)
     (code_of_four(a, text[1], text[2], text[3]), 4)
 }
 
+/// Whether four sequences of three bytes come first. Then puts their code points into the buffer.
+#[inline(always)]
+fn fill_four(text: &[u8], codes: &mut [u32]) -> bool
+    requires text { IsUtf8 text.now }
+    requires source { 16 ≤ length text.now }
+    requires room { 4 ≤ length codes.old }
+    ensures leads { result ≡ list_all is_three_lead
+        (slice_index text.now 0 ∷ slice_index text.now 3 ∷ slice_index text.now 6 ∷ slice_index text.now 9 ∷ []) }
+    ensures front { OnTrue result (IsFront text.now 12 (take 4 codes.new)) }
+    ensures unchanged { OnFalse result (codes.new ≡ codes.old) }
+{
+    let block = u8x16::from_slice(text);
+    let first = block.swizzle([0, 3, 6, 9]).cast::<u32>() - u32x4::splat(0xE0);
+    if first.simd_ge(u32x4::splat(0x10)).to_bitmask() != 0 {
+        return false;
+    }
+    let second = block.swizzle([1, 4, 7, 10]).cast::<u32>();
+    let third = block.swizzle([2, 5, 8, 11]).cast::<u32>();
+    let sum = first * u32x4::splat(0x1000) + second * u32x4::splat(0x40) + third;
+    (sum - u32x4::splat(0x2080)).copy_to_slice(codes);
+    true
+}
+
+/// Takes four sequences of three bytes at a time from the front of a text, as long as they come and are
+/// not near the end, and answers how many fours.
+#[inline(always)]
+fn fill_fours(text: &[u8], codes: &mut [u32]) -> usize
+    requires text { IsUtf8 text.now }
+    requires room { length text.now ≤ length codes.old }
+    ensures { IsFront text.now (result * 12) (take (result * 4) codes.new) }
+{
+    let mut fours = 0;
+    while fours * 12 + 16 <= text.len() && fill_four(&text[fours * 12..], &mut codes[fours * 4..]) {
+        fours += 1;
+    }
+    fours
+}
+
+/// Takes sequence by sequence from the front of a text, through the first that has not three bytes, and
+/// answers how many bytes and how many code points.
+#[inline(always)]
+fn fill_through_other(text: &[u8], codes: &mut [u32]) -> (usize, usize)
+    requires text { IsUtf8 text.now }
+    requires room { length text.now ≤ length codes.old }
+    ensures some { 0 < length text.now → 0 < result.0 }
+    ensures most { result.1 ≤ result.0 }
+    ensures front { IsFront text.now result.0 (take result.1 codes.new) }
+{
+    let mut at = 0;
+    let mut n = 0;
+    let mut last_len = 3;
+    while at < text.len() && last_len == 3 {
+        let (code, len) = first_code(&text[at..]);
+        codes[n] = code;
+        n += 1;
+        at += len;
+        last_len = len;
+    }
+    (at, n)
+}
+
+/// Puts the code points of a text into the buffer, by fours where it can, and answers how many they are.
+#[inline(never)]
+fn fill_by_fours(text: &str, codes: &mut [u32]) -> usize
+    requires { length text.now ≤ length codes.old }
+    ensures within { result ≤ length codes.new }
+    ensures codes { take result codes.new ≡ chars text.now }
+{
+    let bytes = text.as_bytes();
+    let mut at = 0;
+    let mut n = 0;
+    while at < bytes.len() {
+        let fours = fill_fours(&bytes[at..], &mut codes[n..]);
+        at += fours * 12;
+        n += fours * 4;
+        let (len, count) = fill_through_other(&bytes[at..], &mut codes[n..]);
+        at += len;
+        n += count;
+    }
+    n
+}
+
 /// The same, sequence by sequence.
 fn fill_codes(text: &str, codes: &mut [u32]) -> usize
     requires { length text.now ≤ length codes.old }
@@ -118,6 +188,43 @@ fn fill_codes(text: &str, codes: &mut [u32]) -> usize
         at += len;
     }
     n
+}
+
+/// Bytes at the front of a text that tell how it is read.
+const SAMPLE: usize = 128;
+
+/// So many of them begin a sequence of three bytes where at most five are of others: as in Chinese and
+/// Japanese, and not in Korean or Hindi, whose words are too short to be read by fours.
+const MOST_LEADS: u8 = 41;
+
+/// Whether nearly all sequences have three bytes, by the sample. Either answer is right: it picks
+/// the faster way to the same codes.
+fn is_nearly_all_threes(bytes: &[u8]) -> bool {
+    if bytes.len() < SAMPLE {
+        return false;
+    }
+    let mut leads = 0u8;
+    for at in 0..SAMPLE {
+        leads += u8::from(leads_three(bytes[at]));
+    }
+    leads >= MOST_LEADS
+}
+
+/// Puts the code points of a text into the buffer, and answers how many they are.
+fn fill(text: &str, codes: &mut [u32]) -> usize
+    requires { length text.now ≤ length codes.old }
+    ensures within { result ≤ length codes.new }
+    ensures codes { take result codes.new ≡ chars text.now }
+{
+    let bytes = text.as_bytes();
+    if is_ascii(bytes) {
+        widen(bytes, &mut codes[..bytes.len()]);
+        return bytes.len();
+    }
+    if is_nearly_all_threes(bytes) {
+        return fill_by_fours(text, codes);
+    }
+    fill_codes(text, codes)
 }
 
 /// How many bytes at the front of a text are whole characters and fit the room.

@@ -1,0 +1,13 @@
+use Rattle.std.proofs.Common.{◌≡◌, ◌-◌, ◌<◌, ◌≤◌, ◌⊎◌, length, take}
+use Rattle.nfg_decode.specs.Utf8.{IsFront}
+use Rattle.nfg_decode.proofs.utf8.fill_through_other.Given as goal
+
+abbrev pub invariant-loop-at : goal.invariant-loop-at
+invariant-loop-at l = record {
+  front : IsFront l.text l.at (take l.n l.codes);
+  count : l.n ≤ l.at;
+  through : (l.last_len ≡ 3) ⊎ (0 < l.at);
+}
+
+abbrev pub decreases-loop-at : goal.decreases-loop-at
+decreases-loop-at l = length l.text - l.at
