@@ -8,7 +8,7 @@ use Rattle.std.proofs.lemmas.List.Sums.{AllPass-from_list_all}
 use Rattle.std.specs.Str.{chars}
 use Rattle.std.specs.List.{list_all}
 use Rattle.nfg_decode.specs.Utf8.{IsFirst, IsFront, is_three_lead}
-use Rattle.nfg_decode.proofs.Utf8Sequences.{three_first}
+use Rattle.nfg_decode.proofs.Utf8Sequences.{one_first, three_first}
 
 -- one front behind another
 pub front_more : (t xs ys : List ℕ) (n m : ℕ) → IsFront t n xs → IsFront (drop n t) m ys → IsFront t (n + m) (xs ++ ys)
@@ -95,3 +95,11 @@ pub front_set : (t codes : List ℕ) (at n len code : ℕ) → IsFront t at (tak
     → IsFront t (at + len) (take (n + 1) (set codes n code))
 front_set t codes at n len code front first inside =
     subst (IsFront t (at + len)) (sym (take_more_set codes n code inside)) (front_more t (take n codes) (code ∷ []) at len front first)
+
+-- the front, and a byte of ASCII behind it
+pub front_ascii : (t codes : List ℕ) (n code : ℕ) → IsFront t n (take n codes) → n < length t → length t ≤ length codes → get_or t n 0 < 0x80 → code ≡ get_or t n 0
+    → IsFront t (n + 1) (take (n + 1) (set codes n code))
+front_ascii t codes n code front inside room low is =
+    let lead : get_or (drop n t) 0 0 ≡ get_or t n 0 = get_or-drop n t 0 0 ∙ ap (λ k. get_or t k 0) (omega arith) in
+    let one = one_first (drop n t) front.rest (omega (arith, length-drop n t)) (omega (arith, lead)) in
+    front_set t codes n n 1 code front (subst (IsFirst (drop n t) 1) (lead ∙ sym is) one.first) (omega arith)

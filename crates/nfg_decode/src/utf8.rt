@@ -172,6 +172,42 @@ fn fill_by_fours(text: &str, codes: &mut [u32]) -> usize
     n
 }
 
+/// Takes ASCII byte by byte from the front of a text, and answers how many bytes.
+#[inline(always)]
+fn fill_ascii(text: &[u8], codes: &mut [u32]) -> usize
+    requires text { IsUtf8 text.now }
+    requires room { length text.now ≤ length codes.old }
+    ensures { IsFront text.now result (take result codes.new) }
+{
+    let mut n = 0;
+    while n < text.len() && text[n] < 0x80 {
+        codes[n] = u32::from(text[n]);
+        n += 1;
+    }
+    n
+}
+
+/// The same by runs of ASCII, and sequence by sequence between them.
+#[inline(never)]
+fn fill_by_runs(text: &str, codes: &mut [u32]) -> usize
+    requires { length text.now ≤ length codes.old }
+    ensures within { result ≤ length codes.new }
+    ensures codes { take result codes.new ≡ chars text.now }
+{
+    let bytes = text.as_bytes();
+    let mut at = 0;
+    let mut n = 0;
+    while at < bytes.len() {
+        let run = fill_ascii(&bytes[at..], &mut codes[n..]);
+        at += run;
+        n += run;
+        let (len, count) = fill_through_other(&bytes[at..], &mut codes[n..]);
+        at += len;
+        n += count;
+    }
+    n
+}
+
 /// The same, sequence by sequence.
 fn fill_codes(text: &str, codes: &mut [u32]) -> usize
     requires { length text.now ≤ length codes.old }
@@ -210,6 +246,22 @@ fn is_nearly_all_threes(bytes: &[u8]) -> bool {
     leads >= MOST_LEADS
 }
 
+/// So many bytes of a sample are ASCII where runs of it are long enough to be taken apart: as in French, and not in
+/// Russian or among emoji.
+const MANY_ASCII: u8 = 80;
+
+/// Whether most bytes are ASCII, by the sample. Here too either answer is right.
+fn is_mostly_ascii(bytes: &[u8]) -> bool {
+    if bytes.len() < SAMPLE {
+        return false;
+    }
+    let mut ascii = 0u8;
+    for at in 0..SAMPLE {
+        ascii += u8::from(bytes[at] < 0x80);
+    }
+    ascii >= MANY_ASCII
+}
+
 /// Puts the code points of a text into the buffer, and answers how many they are.
 fn fill(text: &str, codes: &mut [u32]) -> usize
     requires { length text.now ≤ length codes.old }
@@ -220,6 +272,9 @@ fn fill(text: &str, codes: &mut [u32]) -> usize
     if is_ascii(bytes) {
         widen(bytes, &mut codes[..bytes.len()]);
         return bytes.len();
+    }
+    if is_mostly_ascii(bytes) {
+        return fill_by_runs(text, codes);
     }
     if is_nearly_all_threes(bytes) {
         return fill_by_fours(text, codes);
