@@ -5,7 +5,7 @@ use Rattle.std.proofs.lemmas.List.{take_more}
 use Rattle.std.specs.List.{list_all}
 use Rattle.nfg_text.specs.Graphemes.{clusters, graphemes_of, starts_safely}
 use Rattle.nfg_text.specs.Plain.{is_plain, AllPlain, singles}
-use Rattle.nfg_text.proofs.Proved.{plain_runs_are_singles, plain_breaks_before_line_feed, printable_ascii_is_plain, hangul_syllables_are_plain, graphemes_at_safe_start, graphemes_at_stable, safe_starts_stay, plain_stands_apart}
+use Rattle.nfg_text.proofs.Proved.{plain_runs_are_singles, plain_breaks_before_line_feed, printable_ascii_is_plain, latin_letters_are_plain, hangul_syllables_are_plain, graphemes_at_safe_start, graphemes_at_stable, safe_starts_stay, plain_stands_apart}
 use Rattle.nfg_text.specs.Grapheme.{is_grapheme_break}
 use Rattle.nfg_segment.specs.Given.{Given, with_clusters}
 use Rattle.nfg_segment.specs.PlainLines.{is_of_plain_lines, ArePlainLines}
@@ -102,9 +102,14 @@ ascii_of_lines c = by (nat_le 0x20 c && nat_le c 0x7E) refl
         ap (λ p. p || (c == 0xA)) (printable_ascii_is_plain c (leb-true 0x20 c parts.0) (leb-true c 0x7E parts.1))
     by false e h = ap (λ x. is_plain c || x) h ∙ or_true (is_plain c)
 
--- ---- syllables of Hangul
+-- ---- letters of Latin, syllables of Hangul
 
-pub syllable_of_lines : (c : ℕ) → (nat_le 0xAC00 c && nat_le c 0xD7A3) ≡ true → is_of_plain_lines c ≡ true
+latin_of_lines : (c : ℕ) → (nat_le 0xC0 c && nat_le c 0x2FF) ≡ true → is_of_plain_lines c ≡ true
+latin_of_lines c h =
+    let parts = and_parts (nat_le 0xC0 c) (nat_le c 0x2FF) h in
+    ap (λ p. p || (c == 0xA)) (latin_letters_are_plain c (leb-true 0xC0 c parts.0) (leb-true c 0x2FF parts.1))
+
+syllable_of_lines : (c : ℕ) → (nat_le 0xAC00 c && nat_le c 0xD7A3) ≡ true → is_of_plain_lines c ≡ true
 syllable_of_lines c h =
     let parts = and_parts (nat_le 0xAC00 c) (nat_le c 0xD7A3) h in
     ap (λ p. p || (c == 0xA)) (hangul_syllables_are_plain c (leb-true 0xAC00 c parts.0) (leb-true c 0xD7A3 parts.1))
@@ -112,6 +117,9 @@ syllable_of_lines c h =
 pub either_of_lines : (c : ℕ) (a b : Bool) → (a ≡ true → is_of_plain_lines c ≡ true) → (b ≡ true → is_of_plain_lines c ≡ true) → (a || b) ≡ true → is_of_plain_lines c ≡ true
 either_of_lines c true b one other h = one refl
 either_of_lines c false b one other h = other h
+
+pub letter_of_lines : (c : ℕ) → ((nat_le 0xC0 c && nat_le c 0x2FF) || (nat_le 0xAC00 c && nat_le c 0xD7A3)) ≡ true → is_of_plain_lines c ≡ true
+letter_of_lines c = either_of_lines c (nat_le 0xC0 c && nat_le c 0x2FF) (nat_le 0xAC00 c && nat_le c 0xD7A3) (latin_of_lines c) (syllable_of_lines c)
 
 -- ---- parts of plain lines
 

@@ -35,7 +35,7 @@ fn many_lines(text: &[u32], from: usize) -> usize
 {
     let mut at = from;
     while text.len() - at >= BLOCK {
-        let next = lines_in_block(text, at);
+        let next = lines_in_block(text, at, at != from);
         if next < at + BLOCK {
             return next;
         }
@@ -47,7 +47,7 @@ fn many_lines(text: &[u32], from: usize) -> usize
 /// How many code points of plain lines the text begins with, of which `from` are known, as far as
 /// the end of the block there.
 #[inline(always)]
-fn lines_in_block(text: &[u32], from: usize) -> usize
+fn lines_in_block(text: &[u32], from: usize, goes_on: bool) -> usize
     requires known { ArePlainLines (take from text.now) }
     requires block { from + 16 ≤ length text.now }
     ensures from { from ≤ result }
@@ -55,7 +55,7 @@ fn lines_in_block(text: &[u32], from: usize) -> usize
     ensures plain { ArePlainLines (take result text.now) }
 {
     let end = from + BLOCK;
-    if are_lines_at_once(script_before(text, from), &text[from..end]) {
+    if are_lines_at_once(script_before(text, from), &text[from..end], goes_on) {
         return end;
     }
     lines_up_to(text, from, end)
@@ -70,16 +70,18 @@ fn script_before(text: &[u32], from: usize) -> u32
     if from > 0 { text[from - 1] } else { 0x20 }
 }
 
-/// Whether every code point is of plain lines, where vectors may soon tell: behind ASCII, and behind a
-/// syllable of Hangul. It may be false of any block.
+/// Whether every code point is of plain lines, where vectors may soon tell: behind ASCII where all are of it,
+/// and in a text that goes on so where they are letters of Latin or syllables of Hangul as well. It may be
+/// false of any block.
 #[inline(always)]
-fn are_lines_at_once(before: u32, block: &[u32]) -> bool
+fn are_lines_at_once(before: u32, block: &[u32], goes_on: bool) -> bool
     ensures { IsTrue result → ArePlainLines block.now }
 {
-    if before < 0x80 {
-        return are_ascii_lines(block);
+    let is_ascii = before < 0x80;
+    if is_ascii && are_ascii_lines(block) {
+        return true;
     }
-    is_syllable(before) && are_korean_lines(block)
+    goes_on && (is_ascii || is_letter(before)) && are_letter_lines(block)
 }
 
 /// How many code points of plain lines the text begins with, of which `from` are known, as far as
@@ -152,28 +154,30 @@ fn is_of_ascii_lines(c: u32) -> bool
     (0x20 <= c) & (c <= 0x7E) | (c == 0xA)
 }
 
-/// Whether every code point is printable ASCII, a line feed or a syllable of Hangul, by vectors as well.
+/// Whether every code point is printable ASCII, a line feed, a letter of Latin or a syllable of Hangul, by
+/// vectors too.
 #[inline(always)]
-fn are_korean_lines(block: &[u32]) -> bool
+fn are_letter_lines(block: &[u32]) -> bool
     ensures { IsTrue result → ArePlainLines block.now }
 {
     let mut all = true;
     for c in block {
-        all &= is_of_korean_lines(*c);
+        all &= is_of_letter_lines(*c);
     }
     all
 }
 
 #[inline(always)]
-fn is_of_korean_lines(c: u32) -> bool
+fn is_of_letter_lines(c: u32) -> bool
     ensures { IsTrue result → is_of_plain_lines c ≡ true }
 {
-    is_of_ascii_lines(c) | is_syllable(c)
+    is_of_ascii_lines(c) | is_letter(c)
 }
 
+/// Whether it is a letter of Latin beyond ASCII or a syllable of Hangul, of those that stand together.
 #[inline(always)]
-fn is_syllable(c: u32) -> bool
+fn is_letter(c: u32) -> bool
     ensures { IsTrue result → is_of_plain_lines c ≡ true }
 {
-    (0xAC00 <= c) & (c <= 0xD7A3)
+    (0xC0 <= c) & (c <= 0x2FF) | (0xAC00 <= c) & (c <= 0xD7A3)
 }

@@ -1,5 +1,5 @@
 -- The rules on two neighbors are those of the table, and the parts of a number say what the rules ask of a value.
-use Rattle.std.proofs.Common.{◌≡◌, ℕ, ◌+◌, ◌*◌, ◌%◌, ◌<◌, Bool, true, false, not, ◌||◌, ◌&&◌, ◌==◌, Option, Some, None, unwrap_or, get_or, refl, sym, ap, ap₂, ◌∙◌, arith, eqb-true, div-add-mod'}
+use Rattle.std.proofs.Common.{◌≡◌, ℕ, ◌+◌, ◌*◌, ◌%◌, Bool, true, false, not, ◌||◌, ◌&&◌, ◌==◌, Option, Some, None, unwrap_or, get_or, refl, ap, ap₂, ◌∙◌, arith, eqb-true, div-add-mod'}
 use Rattle.std.proofs.lemmas.Nat.{mod_below}
 use Rattle.ucd_breaks.specs.GraphemeClusterBreak.{grapheme_cluster_break_number, grapheme_cluster_break_from_number}
 use Rattle.ucd_breaks.specs.declared.GraphemeClusterBreak.{GraphemeClusterBreak}

@@ -14,7 +14,7 @@ use Rattle.ucd_table.proofs.Stepped.{Stepped, of_ranges, map_stepped, zip_steppe
 use Rattle.ucd_table.proofs.StepsLemmas.{rises_from}
 use Rattle.ucd_table.proofs.TrieCheck.{trie_value-Stepped, trie_ok, all_below, all_below-at}
 use Rattle.nfg_text.specs.declared.plain_table.TheConstants.{PLAIN_WORDS}
-use Rattle.nfg_text.specs.Facts.{PrintableAsciiIsPlain, HangulSyllablesArePlain}
+use Rattle.nfg_text.specs.Facts.{PrintableAsciiIsPlain, LatinLettersArePlain, HangulSyllablesArePlain}
 use Rattle.nfg_text.specs.Graphemes.{starts_safely}
 use Rattle.nfg_text.specs.Plain.{is_plain, is_ordinary}
 use Rattle.nfg_text.specs.Properties.{bit}
@@ -101,26 +101,37 @@ pub printable_ascii_is_plain : PrintableAsciiIsPlain
 printable_ascii_is_plain c from end =
     sym (low_is_plain c (omega (arith, end))) ∙ ap (λ b. b || (low_plain c == 1)) (sym (le-ltb c 0x20 from)) ∙ printable_bits c (omega (arith, end))
 
--- ---- Hangul syllables
+-- ---- Latin letters and Hangul syllables
 
-abbrev syllables : List Range
-syllables = (0xAC00, 0xD7A3) ∷ []
+abbrev letters : List Range
+letters = (0xC0, 0x2FF) ∷ (0xAC00, 0xD7A3) ∷ []
 
-unfoldable syllables_stepped : Stepped (in_ranges syllables)
+unfoldable letters_stepped : Stepped (in_ranges letters)
 unfolding rises_from
-syllables_stepped = of_ranges syllables refl
+letters_stepped = of_ranges letters refl
 
-syllable_bits : (c : ℕ) → c ≤ 0x10_FFFF → (not (in_ranges syllables c) || (low_plain c == 1)) ≡ true
-unfolding tables low_stepped plane_stepped syllables_stepped safe_stepped ordinary_stepped safe_ordinary_stepped grapheme_cluster_break_stepped indic_conjunct_break_stepped is_extended_pictographic_stepped canonical_combining_class_stepped quick_check_stepped rises_from
-syllable_bits =
-    Stepped-always (λ c. not (in_ranges syllables c) || (low_plain c == 1))
-    (zip_stepped (λ r v. not r || (v == 1)) (in_ranges syllables) low_plain syllables_stepped low_stepped) refl
+letter_bits : (c : ℕ) → c ≤ 0x10_FFFF → (not (in_ranges letters c) || (low_plain c == 1)) ≡ true
+unfolding tables low_stepped plane_stepped letters_stepped safe_stepped ordinary_stepped safe_ordinary_stepped grapheme_cluster_break_stepped indic_conjunct_break_stepped is_extended_pictographic_stepped canonical_combining_class_stepped quick_check_stepped rises_from
+letter_bits =
+    Stepped-always (λ c. not (in_ranges letters c) || (low_plain c == 1))
+    (zip_stepped (λ r v. not r || (v == 1)) (in_ranges letters) low_plain letters_stepped low_stepped) refl
 
-in_syllables : (c : ℕ) → 0xAC00 ≤ c → c ≤ 0xD7A3 → in_ranges syllables c ≡ true
+letter_is_plain : (c : ℕ) → c < 0x1_0000 → in_ranges letters c ≡ true → is_plain c ≡ true
+letter_is_plain c low letter =
+    sym (low_is_plain c low) ∙ ap (λ r. not r || (low_plain c == 1)) (sym letter) ∙ letter_bits c (omega (arith, low))
+
+or_true : (b : Bool) → (b || true) ≡ true
+or_true true = refl
+or_true false = refl
+
+pub latin_letters_are_plain : LatinLettersArePlain
 unfolding in_ranges
-in_syllables c from end =
-    ap (λ b. b || false) (and_from (nat_le 0xAC00 c) (nat_le c 0xD7A3) (le-leb 0xAC00 c from) (le-leb c 0xD7A3 end))
+latin_letters_are_plain c from end =
+    letter_is_plain c (omega (arith, end))
+    (ap (λ b. b || in_ranges ((0xAC00, 0xD7A3) ∷ []) c) (and_from (nat_le 0xC0 c) (nat_le c 0x2FF) (le-leb 0xC0 c from) (le-leb c 0x2FF end)))
 
 pub hangul_syllables_are_plain : HangulSyllablesArePlain
+unfolding in_ranges
 hangul_syllables_are_plain c from end =
-    sym (low_is_plain c (omega (arith, end))) ∙ ap (λ r. not r || (low_plain c == 1)) (sym (in_syllables c from end)) ∙ syllable_bits c (omega (arith, end))
+    letter_is_plain c (omega (arith, end))
+    (ap (λ b. (nat_le 0xC0 c && nat_le c 0x2FF) || (b || false)) (and_from (nat_le 0xAC00 c) (nat_le c 0xD7A3) (le-leb 0xAC00 c from) (le-leb c 0xD7A3 end)) ∙ or_true (nat_le 0xC0 c && nat_le c 0x2FF))

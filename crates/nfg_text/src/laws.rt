@@ -1,6 +1,6 @@
 //! The facts on the tables of Unicode and the laws of clusters and normal forms. Each function does nothing: its
 //! clauses are what holds.
-ghost use Rattle.nfg_text.specs.Facts.{ConjunctExtendersExtend, LinkersExtend, LinkersAreNoControls, PictographsAreNoControls, ConsonantsAreNoControls, MarksExtend, ControlsStandAlone, CompositesStartWithStarters, StartersStartWithStarters, CompositesKeepBreaks, AsciiStandsAlone, AsciiPairsBreak, AsciiCompositesAreOrdinary, PlainStandsApart, PrintableAsciiIsPlain, HangulSyllablesArePlain};
+ghost use Rattle.nfg_text.specs.Facts.{ConjunctExtendersExtend, LinkersExtend, LinkersAreNoControls, PictographsAreNoControls, ConsonantsAreNoControls, MarksExtend, ControlsStandAlone, CompositesStartWithStarters, StartersStartWithStarters, CompositesKeepBreaks, AsciiStandsAlone, AsciiPairsBreak, AsciiCompositesAreOrdinary, PlainStandsApart, PrintableAsciiIsPlain, LatinLettersArePlain, HangulSyllablesArePlain};
 ghost use Rattle.nfg_text.specs.Laws.{ClustersAtBreak, ClustersWhereBroken, ClustersAtLineFeed, NfcAtLineFeed, NfcAtBreak, NfdOfParts, GraphemesDecideEquivalence, GraphemesSpellNfc, ClustersSpellText, GraphemesAtStable, StableLenIsGreatest, GraphemesAtStableLen, ClustersOfParts, GraphemesAreInNfg, PartsAreInNfg, NfcAtSafeStart, SafeStartsStay, ClustersAtSafeStart, GraphemesAtSafeStart, SafeStartsDecide, AllSafeStartsDecide, MemoriesCutAlike, ClustersOfUtf8, GraphemesAtPlain, PlainRunsAreSingles, PlainPairsBreak, PlainBreaksBeforeLineFeed, NfcOfText, PartsOfText};
 
 /// Where a text is cut at the end of a cluster, its clusters are those of both parts (UAX #29).
@@ -122,10 +122,11 @@ pub fn ascii_stands_alone()
     ensures composites { AsciiCompositesAreOrdinary }
 {}
 
-/// Plain code points start safely, and no rule joins two of them. Printable ASCII and the syllables of
-/// Hangul are plain.
+/// Plain code points start safely, and no rule joins two of them. Printable ASCII, the letters of
+/// Latin from C0 to 2FF (hexadecimal) and the syllables of Hangul are plain.
 pub fn plain_stands_apart()
     ensures apart { PlainStandsApart }
     ensures printable { PrintableAsciiIsPlain }
+    ensures letters { LatinLettersArePlain }
     ensures syllables { HangulSyllablesArePlain }
 {}
