@@ -173,6 +173,7 @@ fn fill_by_fours(text: &str, codes: &mut [u32]) -> usize
 }
 
 /// The same, sequence by sequence.
+#[inline(never)]
 fn fill_codes(text: &str, codes: &mut [u32]) -> usize
     requires { length text.now ≤ length codes.old }
     ensures within { result ≤ length codes.new }
