@@ -3,7 +3,7 @@ ghost use Rattle.nfg_decode.specs.Stream.{fed_count};
 
 use super::*;
 use nfg_text::CodeList;
-use std::alloc::Global;
+use std::alloc::{AllocError, Global};
 use std::process::Abort;
 use std::test::Fail;
 
@@ -256,4 +256,65 @@ fn a_sequence_is_read_byte_by_byte(rt: HostRuntime) -> Result<(), Fail> {
     assert_eq!(rt; end(&mut stream)?, None);
     assert_eq!(rt; into.as_slice(), [0x20AC].as_slice());
     Ok(())
+}
+
+/// Forty characters of three bytes each.
+static RUN: &str = "渡船每天早上七点离开码头。没有人看见灯塔的灯是什么时候熄灭的，大家都说：“是风吹";
+
+/// So many more that what stands behind them is read by fours.
+static FRONT: &str = "渡船每天早上七点离开码头。没有人看见灯塔的灯是什么时候熄灭的，大家都说：“是风吹的。”然后";
+
+/// So many characters of the run, behind a front, with another one before one of them.
+fn broken_run(
+    alloc: Global,
+    front: &str,
+    len: usize,
+    at: usize,
+    other: char,
+) -> Result<String, AllocError> {
+    let mut text = String::new(alloc);
+    text.push_str(front)?;
+    for (k, c) in RUN.chars().take(len).enumerate() {
+        if k == at {
+            text.push(other)?;
+        }
+        text.push(c)?;
+    }
+    Ok(text)
+}
+
+/// The stream gives the characters of a text.
+fn reads_text(rt: &impl Abort, alloc: Global, text: &str) -> Result<(), Fail> {
+    let bytes = text.as_bytes();
+    assert!(rt; bytes.len() <= 1024);
+    let mut into = CodeList::new(alloc);
+    let mut stream = ByteStream::new(Encoding::Utf8);
+    assert_eq!(rt; place(&mut stream, alloc, bytes, &mut into)?, None);
+    assert_eq!(rt; end(&mut stream)?, None);
+    let codes = into.as_slice();
+    assert_eq!(rt; codes.len(), text.chars().count());
+    for (code, c) in codes.iter().zip(text.chars()) {
+        assert_eq!(rt; *code, u32::from(c));
+    }
+    Ok(())
+}
+
+/// Runs of each length up to forty, whole and broken at each place, behind a front.
+fn reads_runs(rt: &impl Abort, alloc: Global, front: &str) -> Result<(), Fail> {
+    for len in 1..=40 {
+        for at in 0..=len {
+            for other in ['\n', 'é', '😀'] {
+                let text = broken_run(alloc, front, len, at, other)?;
+                reads_text(rt, alloc, text.as_str())?;
+            }
+        }
+    }
+    Ok(())
+}
+
+#[test]
+fn runs_of_three_bytes_are_read_however_they_are_broken(rt: HostRuntime) -> Result<(), Fail> {
+    let alloc = rt.alloc();
+    reads_runs(&rt, alloc, "")?;
+    reads_runs(&rt, alloc, FRONT)
 }

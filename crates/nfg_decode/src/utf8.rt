@@ -209,6 +209,7 @@ fn fill_by_runs(text: &str, codes: &mut [u32]) -> usize
 }
 
 /// The same, sequence by sequence.
+#[inline(never)]
 fn fill_codes(text: &str, codes: &mut [u32]) -> usize
     requires { length text.now ≤ length codes.old }
     ensures within { result ≤ length codes.new }
