@@ -1,14 +1,15 @@
 -- Plain lines.
-use Rattle.std.proofs.Common.{◌≡◌, ℕ, zero, suc, ◌+◌, ◌<◌, ◌&&◌, ◌||◌, ◌==◌, nat_le, Bool, true, false, ◌⊎◌, inl, inr, List, [], ◌∷◌, ◌++◌, length, take, drop, get_or, refl, sym, ap, subst, ◌∙◌, arith, append_assoc, eqb-true, leb-true, reverse}
+use Rattle.std.proofs.Common.{◌≡◌, ℕ, zero, suc, ◌+◌, ◌<◌, ◌&&◌, ◌||◌, ◌==◌, nat_le, nat_lt, lt-ltb, if◌then◌else◌, map, Bool, true, false, ◌⊎◌, inl, inr, List, [], ◌∷◌, ◌++◌, length, take, drop, get_or, refl, sym, ap, subst, ◌∙◌, arith, append_assoc, eqb-true, leb-true, reverse}
 use Rattle.std.proofs.lemmas.Bool.{and_parts, and_from}
 use Rattle.std.proofs.lemmas.List.{take_more}
 use Rattle.std.specs.List.{list_all}
+use Rattle.nfg_text.specs.Facts.{ArePlainFrom}
 use Rattle.nfg_text.specs.Graphemes.{clusters, graphemes_of, starts_safely}
 use Rattle.nfg_text.specs.Plain.{is_plain, AllPlain, singles}
-use Rattle.nfg_text.proofs.Proved.{plain_runs_are_singles, plain_breaks_before_line_feed, printable_ascii_is_plain, latin_letters_are_plain, hangul_syllables_are_plain, graphemes_at_safe_start, graphemes_at_stable, safe_starts_stay, plain_stands_apart}
+use Rattle.nfg_text.proofs.Proved.{plain_runs_are_singles, plain_breaks_before_line_feed, printable_ascii_is_plain, latin_are_plain, punctuation_are_plain, radicals_are_plain, hiragana_are_plain, katakana_are_plain, ideographs_are_plain, syllables_are_plain, full_width_are_plain, graphemes_at_safe_start, graphemes_at_stable, safe_starts_stay, plain_stands_apart}
 use Rattle.nfg_text.specs.Grapheme.{is_grapheme_break}
 use Rattle.nfg_segment.specs.Given.{Given, with_clusters}
-use Rattle.nfg_segment.specs.PlainLines.{is_of_plain_lines, ArePlainLines}
+use Rattle.nfg_segment.specs.PlainLines.{is_of_plain_lines, is_of_low_lines, capped, ArePlainLines}
 use Rattle.nfg_segment.proofs.Machine.{with_clusters-append}
 use Rattle.nfg_segment.proofs.OneCluster.{clusters-single}
 use Rattle.nfg_segment.proofs.Stable.{ascii_safe}
@@ -104,22 +105,57 @@ ascii_of_lines c = by (nat_le 0x20 c && nat_le c 0x7E) refl
 
 -- ---- letters of Latin, syllables of Hangul
 
-latin_of_lines : (c : ℕ) → (nat_le 0xC0 c && nat_le c 0x2FF) ≡ true → is_of_plain_lines c ≡ true
-latin_of_lines c h =
-    let parts = and_parts (nat_le 0xC0 c) (nat_le c 0x2FF) h in
-    ap (λ p. p || (c == 0xA)) (latin_letters_are_plain c (leb-true 0xC0 c parts.0) (leb-true c 0x2FF parts.1))
+range_of_lines : (first last c : ℕ) → ArePlainFrom first last → (nat_le first c && nat_le c last) ≡ true → is_of_plain_lines c ≡ true
+range_of_lines first last c plain h =
+    let parts = and_parts (nat_le first c) (nat_le c last) h in
+    ap (λ p. p || (c == 0xA)) (plain c (leb-true first c parts.0) (leb-true c last parts.1))
 
-syllable_of_lines : (c : ℕ) → (nat_le 0xAC00 c && nat_le c 0xD7A3) ≡ true → is_of_plain_lines c ≡ true
-syllable_of_lines c h =
-    let parts = and_parts (nat_le 0xAC00 c) (nat_le c 0xD7A3) h in
-    ap (λ p. p || (c == 0xA)) (hangul_syllables_are_plain c (leb-true 0xAC00 c parts.0) (leb-true c 0xD7A3 parts.1))
-
-pub either_of_lines : (c : ℕ) (a b : Bool) → (a ≡ true → is_of_plain_lines c ≡ true) → (b ≡ true → is_of_plain_lines c ≡ true) → (a || b) ≡ true → is_of_plain_lines c ≡ true
-either_of_lines c true b one other h = one refl
-either_of_lines c false b one other h = other h
+-- what follows from each of two follows where one of them holds
+pub either_so : (a b : Bool) {x : Bool} → (a ≡ true → x ≡ true) → (b ≡ true → x ≡ true) → (a || b) ≡ true → x ≡ true
+either_so true b one other h = one refl
+either_so false b one other h = other h
 
 pub letter_of_lines : (c : ℕ) → ((nat_le 0xC0 c && nat_le c 0x2FF) || (nat_le 0xAC00 c && nat_le c 0xD7A3)) ≡ true → is_of_plain_lines c ≡ true
-letter_of_lines c = either_of_lines c (nat_le 0xC0 c && nat_le c 0x2FF) (nat_le 0xAC00 c && nat_le c 0xD7A3) (latin_of_lines c) (syllable_of_lines c)
+letter_of_lines c = either_so _ _ (range_of_lines 0xC0 0x2FF c latin_are_plain) (range_of_lines 0xAC00 0xD7A3 c syllables_are_plain)
+
+-- ---- the scripts of East Asia, in 16 bits
+
+low_range : (first last c : ℕ) → ArePlainFrom first last → last < 0xFFFF → (nat_le first c && nat_le c last) ≡ true → is_of_low_lines c ≡ true
+low_range first last c plain low h =
+    let parts = and_parts (nat_le first c) (nat_le c last) h in
+    and_from _ _ (range_of_lines first last c plain h) (lt-ltb c 0xFFFF (omega (arith, low, leb-true c last parts.1)))
+
+low_line_feed : (c : ℕ) → (c == 0xA) ≡ true → is_of_low_lines c ≡ true
+low_line_feed c h = subst (λ x. is_of_low_lines x ≡ true) (sym (eqb-true c 0xA h)) (and_from _ _ (of_line (is_plain 0xA)) refl)
+  where
+    of_line : (b : Bool) → (b || true) ≡ true
+    of_line true = refl
+    of_line false = refl
+
+pub east_asian_of_lines : (c : ℕ)
+    → (nat_le 0x20 c && nat_le c 0x7E || (c == 0xA) || (nat_le 0x2010 c && nat_le c 0x2027) || (nat_le 0x2E00 c && nat_le c 0x3029) || (nat_le 0x303E c && nat_le c 0x3098)
+    || (nat_le 0x309B c && nat_le c 0x3296) || (nat_le 0x329A c && nat_le c 0xA66E) || (nat_le 0xAC00 c && nat_le c 0xD7A3) || (nat_le 0xFF00 c && nat_le c 0xFF9D)) ≡ true
+    → is_of_low_lines c ≡ true
+east_asian_of_lines c =
+    either_so _ _ (either_so _ _ (either_so _ _ (either_so _ _ (either_so _ _ (either_so _ _ (either_so _ _ (either_so _ _
+    (low_range 0x20 0x7E c printable_ascii_is_plain (omega arith)) (low_line_feed c))
+    (low_range 0x2010 0x2027 c punctuation_are_plain (omega arith))) (low_range 0x2E00 0x3029 c radicals_are_plain (omega arith)))
+    (low_range 0x303E 0x3098 c hiragana_are_plain (omega arith))) (low_range 0x309B 0x3296 c katakana_are_plain (omega arith)))
+    (low_range 0x329A 0xA66E c ideographs_are_plain (omega arith))) (low_range 0xAC00 0xD7A3 c syllables_are_plain (omega arith)))
+    (low_range 0xFF00 0xFF9D c full_width_are_plain (omega arith))
+
+capped-low : (c : ℕ) → is_of_low_lines (capped c) ≡ true → is_of_plain_lines c ≡ true
+capped-low c = by (nat_lt c 0xFFFF) refl
+  where
+    by : (b : Bool) → nat_lt c 0xFFFF ≡ b → is_of_low_lines (if b then c else 0xFFFF) ≡ true → is_of_plain_lines c ≡ true
+    by true e h = (and_parts (is_of_plain_lines c) (nat_lt c 0xFFFF) h).0
+    by false e h = absurd (cc (and_parts (is_of_plain_lines 0xFFFF) false h).1)
+
+pub capped-lines : (t : List ℕ) → list_all is_of_low_lines (map capped t) ≡ true → ArePlainLines t
+capped-lines [] all = refl
+capped-lines (c ∷ t) all =
+    let parts = and_parts (is_of_low_lines (capped c)) (list_all is_of_low_lines (map capped t)) all in
+    and_from _ _ (capped-low c parts.0) (capped-lines t parts.1)
 
 -- ---- parts of plain lines
 

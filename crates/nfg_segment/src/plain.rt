@@ -1,6 +1,7 @@
 //! Plain code points and line feeds, between which a text is settled.
-ghost use Rattle.std.specs.Prelude.{◌≡◌, ◌≤◌, ◌+◌, true, IsTrue, take, length};
-ghost use Rattle.nfg_segment.specs.PlainLines.{is_of_plain_lines, ArePlainLines};
+ghost use Rattle.std.specs.Prelude.{◌≡◌, ◌≤◌, ◌+◌, true, IsTrue, map, take, length};
+ghost use Rattle.std.specs.List.{list_all};
+ghost use Rattle.nfg_segment.specs.PlainLines.{is_of_plain_lines, is_of_low_lines, capped, ArePlainLines};
 
 use nfg_text::is_plain;
 
@@ -70,18 +71,25 @@ fn script_before(text: &[u32], from: usize) -> u32
     if from > 0 { text[from - 1] } else { 0x20 }
 }
 
-/// Whether every code point is of plain lines, where vectors may soon tell: behind ASCII where all are of it,
-/// and in a text that goes on so where they are letters of Latin or syllables of Hangul as well. It may be
-/// false of any block.
+/// Whether every code point is of plain lines, where vectors may soon tell: behind ASCII where all are of it, and
+/// in a text that goes on where they are letters of Latin or syllables of Hangul as well, or of the scripts of East
+/// Asia. It may be false of any block.
 #[inline(always)]
 fn are_lines_at_once(before: u32, block: &[u32], goes_on: bool) -> bool
+    requires { length block.now ≡ 16 }
     ensures { IsTrue result → ArePlainLines block.now }
 {
     let is_ascii = before < 0x80;
     if is_ascii && are_ascii_lines(block) {
         return true;
     }
-    goes_on && (is_ascii || is_letter(before)) && are_letter_lines(block)
+    if !goes_on {
+        return false;
+    }
+    if is_ascii || is_letter(before) {
+        return are_letter_lines(block);
+    }
+    before >= 0x2010 && are_east_asian_lines(block)
 }
 
 /// How many code points of plain lines the text begins with, of which `from` are known, as far as
@@ -180,4 +188,61 @@ fn is_letter(c: u32) -> bool
     ensures { IsTrue result → is_of_plain_lines c ≡ true }
 {
     (0xC0 <= c) & (c <= 0x2FF) | (0xAC00 <= c) & (c <= 0xD7A3)
+}
+
+/// Whether every code point is of plain lines of East Asia, by vectors of 16 bits, which hold twice as many.
+#[inline(always)]
+fn are_east_asian_lines(block: &[u32]) -> bool
+    requires { length block.now ≡ 16 }
+    ensures { IsTrue result → ArePlainLines block.now }
+{
+    let mut low = [0; BLOCK];
+    cap_all(block, &mut low);
+    are_low_lines(&low)
+}
+
+/// Copies each number into 16 bits, the greatest one where it is greater.
+#[inline(always)]
+fn cap_all(block: &[u32], low: &mut [u16])
+    requires { length block.now ≡ length low.old }
+    ensures { low.new ≡ map capped block.now }
+{
+    for k in 0..block.len() {
+        low[k] = capped(block[k]);
+    }
+}
+
+#[inline(always)]
+fn capped(c: u32) -> u16
+    ensures { result ≡ capped c }
+{
+    if c < 0xFFFF { c as u16 } else { 0xFFFF }
+}
+
+#[inline(always)]
+fn are_low_lines(low: &[u16]) -> bool
+    ensures { IsTrue result → list_all is_of_low_lines low.now ≡ true }
+{
+    let mut all = true;
+    for c in low {
+        all &= is_of_east_asian_lines(*c);
+    }
+    all
+}
+
+/// Whether it is printable ASCII, a line feed, a dash or quotation mark, kana, an ideograph or its
+/// punctuation, a syllable of Hangul, or a full-width form, of those that stand together.
+#[inline(always)]
+fn is_of_east_asian_lines(c: u16) -> bool
+    ensures { IsTrue result → is_of_low_lines c ≡ true }
+{
+    (0x20 <= c) & (c <= 0x7E)
+        | (c == 0xA)
+        | (0x2010 <= c) & (c <= 0x2027)
+        | (0x2E00 <= c) & (c <= 0x3029)
+        | (0x303E <= c) & (c <= 0x3098)
+        | (0x309B <= c) & (c <= 0x3296)
+        | (0x329A <= c) & (c <= 0xA66E)
+        | (0xAC00 <= c) & (c <= 0xD7A3)
+        | (0xFF00 <= c) & (c <= 0xFF9D)
 }

@@ -1,6 +1,6 @@
 -- The table of plain code points holds the bit of each of the first plane.
-use Rattle.std.proofs.Common.{◌≡◌, ℕ, ◌+◌, ◌*◌, ◌/◌, ◌%◌, ◌^◌, ◌<◌, ◌≤◌, Bool, true, false, not, ◌&&◌, ◌||◌, ◌==◌, nat_le, [], ◌∷◌, List, refl, sym, ap, ◌∙◌, arith, le-leb, lt-ltb, le-ltb, eqb-true, slice_index, nat_lt, ap₂}
-use Rattle.std.proofs.lemmas.Bool.{and_from, cond-true}
+use Rattle.std.proofs.Common.{◌≡◌, ℕ, ◌+◌, ◌*◌, ◌/◌, ◌%◌, ◌^◌, ◌<◌, ◌≤◌, Bool, true, false, not, ◌&&◌, ◌||◌, ◌==◌, nat_le, [], ◌∷◌, List, refl, sym, ap, ◌∙◌, arith, le-leb, lt-ltb, ltb-true, le-ltb, eqb-true, slice_index, nat_lt, ap₂}
+use Rattle.std.proofs.lemmas.Bool.{and_from, and_parts, cond-true}
 use Rattle.ucd_breaks.proofs.GraphemeClusterBreakLemmas.{grapheme_cluster_break_stepped}
 use Rattle.ucd_derived.proofs.IndicConjunctBreakLemmas.{indic_conjunct_break_stepped}
 use Rattle.ucd_emoji.proofs.BinaryLemmas.{is_extended_pictographic_stepped}
@@ -14,7 +14,7 @@ use Rattle.ucd_table.proofs.Stepped.{Stepped, of_ranges, map_stepped, zip_steppe
 use Rattle.ucd_table.proofs.StepsLemmas.{rises_from}
 use Rattle.ucd_table.proofs.TrieCheck.{trie_value-Stepped, trie_ok, all_below, all_below-at}
 use Rattle.nfg_text.specs.declared.plain_table.TheConstants.{PLAIN_WORDS}
-use Rattle.nfg_text.specs.Facts.{PrintableAsciiIsPlain, LatinLettersArePlain, HangulSyllablesArePlain}
+use Rattle.nfg_text.specs.Facts.{PrintableAsciiIsPlain, ArePlainFrom}
 use Rattle.nfg_text.specs.Graphemes.{starts_safely}
 use Rattle.nfg_text.specs.Plain.{is_plain, is_ordinary}
 use Rattle.nfg_text.specs.Properties.{bit}
@@ -101,10 +101,11 @@ pub printable_ascii_is_plain : PrintableAsciiIsPlain
 printable_ascii_is_plain c from end =
     sym (low_is_plain c (omega (arith, end))) ∙ ap (λ b. b || (low_plain c == 1)) (sym (le-ltb c 0x20 from)) ∙ printable_bits c (omega (arith, end))
 
--- ---- Latin letters and Hangul syllables
+-- ---- ranges of letters and their punctuation
 
 abbrev letters : List Range
-letters = (0xC0, 0x2FF) ∷ (0xAC00, 0xD7A3) ∷ []
+letters =
+    (0xC0, 0x2FF) ∷ (0x2010, 0x2027) ∷ (0x2E00, 0x3029) ∷ (0x303E, 0x3098) ∷ (0x309B, 0x3296) ∷ (0x329A, 0xA66E) ∷ (0xAC00, 0xD7A3) ∷ (0xFF00, 0xFF9D) ∷ []
 
 unfoldable letters_stepped : Stepped (in_ranges letters)
 unfolding rises_from
@@ -116,22 +117,60 @@ letter_bits =
     Stepped-always (λ c. not (in_ranges letters c) || (low_plain c == 1))
     (zip_stepped (λ r v. not r || (v == 1)) (in_ranges letters) low_plain letters_stepped low_stepped) refl
 
-letter_is_plain : (c : ℕ) → c < 0x1_0000 → in_ranges letters c ≡ true → is_plain c ≡ true
-letter_is_plain c low letter =
-    sym (low_is_plain c low) ∙ ap (λ r. not r || (low_plain c == 1)) (sym letter) ∙ letter_bits c (omega (arith, low))
-
 or_true : (b : Bool) → (b || true) ≡ true
 or_true true = refl
 or_true false = refl
 
-pub latin_letters_are_plain : LatinLettersArePlain
-unfolding in_ranges
-latin_letters_are_plain c from end =
-    letter_is_plain c (omega (arith, end))
-    (ap (λ b. b || in_ranges ((0xAC00, 0xD7A3) ∷ []) c) (and_from (nat_le 0xC0 c) (nat_le c 0x2FF) (le-leb 0xC0 c from) (le-leb c 0x2FF end)))
+-- whether it is one of the ranges
+abbrev is_one_of : Range → List Range → Bool
+is_one_of r [] = false
+is_one_of r (s ∷ rs) = ((r.0 == s.0) && (r.1 == s.1)) || is_one_of r rs
 
-pub hangul_syllables_are_plain : HangulSyllablesArePlain
+in_first_or : (first last c : ℕ) (s : Range) (rs : List Range) (b : Bool) → ((first == s.0) && (last == s.1)) ≡ b → first ≤ c → c ≤ last
+    → (b ≡ false → in_ranges rs c ≡ true) → in_ranges (s ∷ rs) c ≡ true
 unfolding in_ranges
-hangul_syllables_are_plain c from end =
-    letter_is_plain c (omega (arith, end))
-    (ap (λ b. (nat_le 0xC0 c && nat_le c 0x2FF) || (b || false)) (and_from (nat_le 0xAC00 c) (nat_le c 0xD7A3) (le-leb 0xAC00 c from) (le-leb c 0xD7A3 end)) ∙ or_true (nat_le 0xC0 c && nat_le c 0x2FF))
+in_first_or first last c s rs true e from end others =
+    let same = and_parts (first == s.0) (last == s.1) e in
+    ap (λ b. b || in_ranges rs c)
+    (and_from (nat_le s.0 c) (nat_le c s.1)
+    (le-leb s.0 c (omega (arith, eqb-true first s.0 same.0, from))) (le-leb c s.1 (omega (arith, eqb-true last s.1 same.1, end))))
+in_first_or first last c s rs false e from end others = ap (λ b. (nat_le s.0 c && nat_le c s.1) || b) (others refl) ∙ or_true (nat_le s.0 c && nat_le c s.1)
+
+in_one_of : (first last c : ℕ) (rs : List Range) → is_one_of (first, last) rs ≡ true → first ≤ c → c ≤ last → in_ranges rs c ≡ true
+in_one_of first last c [] one from end = absurd (cc)
+in_one_of first last c (s ∷ rs) one from end =
+    let same = (first == s.0) && (last == s.1) in
+    in_first_or first last c s rs same refl from end
+    (λ other. in_one_of first last c rs (sym (ap (λ b. b || is_one_of (first, last) rs) other) ∙ one) from end)
+
+range_is_plain : (first last : ℕ) → (is_one_of (first, last) letters && nat_lt last 0x1_0000) ≡ true → ArePlainFrom first last
+range_is_plain first last one c from end =
+    let parts = and_parts (is_one_of (first, last) letters) (nat_lt last 0x1_0000) one in
+    let low : c < 0x1_0000 = omega (arith, end, ltb-true last 0x1_0000 parts.1) in
+    sym (low_is_plain c low)
+    ∙ ap (λ r. not r || (low_plain c == 1)) (sym (in_one_of first last c letters parts.0 from end))
+    ∙ letter_bits c (omega (arith, low))
+
+pub latin_are_plain : ArePlainFrom 0xC0 0x2FF
+latin_are_plain = range_is_plain 0xC0 0x2FF refl
+
+pub punctuation_are_plain : ArePlainFrom 0x2010 0x2027
+punctuation_are_plain = range_is_plain 0x2010 0x2027 refl
+
+pub radicals_are_plain : ArePlainFrom 0x2E00 0x3029
+radicals_are_plain = range_is_plain 0x2E00 0x3029 refl
+
+pub hiragana_are_plain : ArePlainFrom 0x303E 0x3098
+hiragana_are_plain = range_is_plain 0x303E 0x3098 refl
+
+pub katakana_are_plain : ArePlainFrom 0x309B 0x3296
+katakana_are_plain = range_is_plain 0x309B 0x3296 refl
+
+pub ideographs_are_plain : ArePlainFrom 0x329A 0xA66E
+ideographs_are_plain = range_is_plain 0x329A 0xA66E refl
+
+pub syllables_are_plain : ArePlainFrom 0xAC00 0xD7A3
+syllables_are_plain = range_is_plain 0xAC00 0xD7A3 refl
+
+pub full_width_are_plain : ArePlainFrom 0xFF00 0xFF9D
+full_width_are_plain = range_is_plain 0xFF00 0xFF9D refl

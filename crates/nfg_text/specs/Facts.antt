@@ -146,8 +146,6 @@ PlainStandsApart = (c : ℕ) → is_plain c ≡ true → StandsApart c
 abbrev pub PrintableAsciiIsPlain : Type 0
 PrintableAsciiIsPlain = (c : ℕ) → 0x20 ≤ c → c ≤ 0x7E → is_plain c ≡ true
 
-abbrev pub LatinLettersArePlain : Type 0
-LatinLettersArePlain = (c : ℕ) → 0xC0 ≤ c → c ≤ 0x2FF → is_plain c ≡ true
-
-abbrev pub HangulSyllablesArePlain : Type 0
-HangulSyllablesArePlain = (c : ℕ) → 0xAC00 ≤ c → c ≤ 0xD7A3 → is_plain c ≡ true
+-- every code point of the range is plain
+abbrev pub ArePlainFrom : ℕ → ℕ → Type 0
+ArePlainFrom first last = (c : ℕ) → first ≤ c → c ≤ last → is_plain c ≡ true

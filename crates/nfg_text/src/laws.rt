@@ -1,6 +1,6 @@
 //! The facts on the tables of Unicode and the laws of clusters and normal forms. Each function does nothing: its
 //! clauses are what holds.
-ghost use Rattle.nfg_text.specs.Facts.{ConjunctExtendersExtend, LinkersExtend, LinkersAreNoControls, PictographsAreNoControls, ConsonantsAreNoControls, MarksExtend, ControlsStandAlone, CompositesStartWithStarters, StartersStartWithStarters, CompositesKeepBreaks, AsciiStandsAlone, AsciiPairsBreak, AsciiCompositesAreOrdinary, PlainStandsApart, PrintableAsciiIsPlain, LatinLettersArePlain, HangulSyllablesArePlain};
+ghost use Rattle.nfg_text.specs.Facts.{ConjunctExtendersExtend, LinkersExtend, LinkersAreNoControls, PictographsAreNoControls, ConsonantsAreNoControls, MarksExtend, ControlsStandAlone, CompositesStartWithStarters, StartersStartWithStarters, CompositesKeepBreaks, AsciiStandsAlone, AsciiPairsBreak, AsciiCompositesAreOrdinary, PlainStandsApart, PrintableAsciiIsPlain, ArePlainFrom};
 ghost use Rattle.nfg_text.specs.Laws.{ClustersAtBreak, ClustersWhereBroken, ClustersAtLineFeed, NfcAtLineFeed, NfcAtBreak, NfdOfParts, GraphemesDecideEquivalence, GraphemesSpellNfc, ClustersSpellText, GraphemesAtStable, StableLenIsGreatest, GraphemesAtStableLen, ClustersOfParts, GraphemesAreInNfg, PartsAreInNfg, NfcAtSafeStart, SafeStartsStay, ClustersAtSafeStart, GraphemesAtSafeStart, SafeStartsDecide, AllSafeStartsDecide, MemoriesCutAlike, ClustersOfUtf8, GraphemesAtPlain, PlainRunsAreSingles, PlainPairsBreak, PlainBreaksBeforeLineFeed, NfcOfText, PartsOfText};
 
 /// Where a text is cut at the end of a cluster, its clusters are those of both parts (UAX #29).
@@ -122,11 +122,18 @@ pub fn ascii_stands_alone()
     ensures composites { AsciiCompositesAreOrdinary }
 {}
 
-/// Plain code points start safely, and no rule joins two of them. Printable ASCII, the letters of
-/// Latin from C0 to 2FF (hexadecimal) and the syllables of Hangul are plain.
+/// Plain code points start safely, and no rule joins two of them. Printable ASCII is plain,
+/// and so are the ranges of the other clauses: letters of Latin, dashes and quotation marks, kana, ideographs and
+/// their punctuation, syllables of Hangul, and full-width forms.
 pub fn plain_stands_apart()
     ensures apart { PlainStandsApart }
     ensures printable { PrintableAsciiIsPlain }
-    ensures letters { LatinLettersArePlain }
-    ensures syllables { HangulSyllablesArePlain }
+    ensures latin { ArePlainFrom 0xC0 0x2FF }
+    ensures punctuation { ArePlainFrom 0x2010 0x2027 }
+    ensures radicals { ArePlainFrom 0x2E00 0x3029 }
+    ensures hiragana { ArePlainFrom 0x303E 0x3098 }
+    ensures katakana { ArePlainFrom 0x309B 0x3296 }
+    ensures ideographs { ArePlainFrom 0x329A 0xA66E }
+    ensures syllables { ArePlainFrom 0xAC00 0xD7A3 }
+    ensures full_width { ArePlainFrom 0xFF00 0xFF9D }
 {}
