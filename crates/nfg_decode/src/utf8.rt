@@ -202,6 +202,7 @@ const MOST_LEADS: u8 = 41;
 
 /// Whether nearly all sequences have three bytes, by the sample. Either answer is right: it picks
 /// the faster way to the same codes.
+#[inline(never)]
 fn is_nearly_all_threes(bytes: &[u8]) -> bool {
     if bytes.len() < SAMPLE {
         return false;
