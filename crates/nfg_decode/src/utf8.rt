@@ -102,6 +102,7 @@ fn fill_four(text: &[u8], codes: &mut [u32]) -> bool
     ensures unchanged { OnFalse result (codes.new ≡ codes.old) }
 {
     let block = u8x16::from_slice(text);
+    // a byte below E0 wraps around, so one test finds each byte that is no lead of three
     let first = block.swizzle([0, 3, 6, 9]).cast::<u32>() - u32x4::splat(0xE0);
     if first.simd_ge(u32x4::splat(0x10)).to_bitmask() != 0 {
         return false;
@@ -109,6 +110,7 @@ fn fill_four(text: &[u8], codes: &mut [u32]) -> bool
     let second = block.swizzle([1, 4, 7, 10]).cast::<u32>();
     let third = block.swizzle([2, 5, 8, 11]).cast::<u32>();
     let sum = first * u32x4::splat(0x1000) + second * u32x4::splat(0x40) + third;
+    // less the 80 of each second and third byte
     (sum - u32x4::splat(0x2080)).copy_to_slice(codes);
     true
 }
@@ -236,6 +238,7 @@ const MOST_LEADS: u8 = 41;
 
 /// Whether nearly all sequences have three bytes, by the sample. Either answer is right: it picks
 /// the faster way to the same codes.
+#[inline(never)]
 fn is_nearly_all_threes(bytes: &[u8]) -> bool {
     if bytes.len() < SAMPLE {
         return false;

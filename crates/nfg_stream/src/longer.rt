@@ -186,6 +186,7 @@ fn slot_at(count: usize, hash: usize, step: usize) -> usize
 }
 
 /// The place of a text, or else a slot for it.
+#[inline(always)]
 fn find(texts: &Clusters, slots: &[u32], text: &[u32]) -> Result<usize, usize>
     requires { 0 < length slots.now }
     ensures within { IfOk result (λ place. place < length texts.now.heads) }
@@ -241,7 +242,9 @@ fn enter_all(texts: &Clusters, slots: &mut [u32])
     }
 }
 
-/// Makes room for one text more: more than half of the slots have none.
+/// Makes room for one text more: more than half of the slots have none. Mostly there is room, which the
+/// caller sees in place.
+#[inline(always)]
 fn make_room(texts: &Clusters, slots: &mut Vec<u32>) -> Result<(), AllocError>
     ensures { OnOk result (0 < length slots.new.items) }
 {
@@ -249,6 +252,15 @@ fn make_room(texts: &Clusters, slots: &mut Vec<u32>) -> Result<(), AllocError>
     if count > 0 && texts.len() < count / 2 {
         return Ok(());
     }
+    double_slots(texts, slots)
+}
+
+/// Doubles the slots.
+#[inline(never)]
+fn double_slots(texts: &Clusters, slots: &mut Vec<u32>) -> Result<(), AllocError>
+    ensures { OnOk result (0 < length slots.new.items) }
+{
+    let count = slots.len();
     slots.truncate(0);
     slots.resize(count.max(FIRST_SLOTS / 2) * 2, NO_TEXT)?;
     enter_all(texts, slots);
