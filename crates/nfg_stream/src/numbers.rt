@@ -13,6 +13,10 @@ use std::marker::Model;
 /// fewer does without one.
 const PART: usize = 256;
 
+/// Where there are so many numbers, their room grows by a quarter at a time, and below by as much again. So a long
+/// list has little room that it doesn't use, which need not be given back, and its last growth is a small step.
+const MANY: usize = 1 << 18;
+
 /// Numbers in order. All of them stand in `narrow` while each fits 8 bits, and all in `wide` from the
 /// first on that does not.
 #[derive(Drop)]
@@ -57,11 +61,13 @@ impl Numbers {
     {
         if self.wide.is_empty() {
             if fits(number) {
+                make_room(&mut self.narrow, 1)?;
                 self.narrow.push(number as i8)?;
                 return Ok(());
             }
         }
         move_all(&mut self.narrow, &mut self.wide)?;
+        make_room(&mut self.wide, 1)?;
         self.wide.push(number)?;
         Ok(())
     }
@@ -142,6 +148,27 @@ fn move_some(narrow: &mut Vec<i8>, wide: &mut Vec<i32>) -> Result<(), AllocError
     Ok(())
 }
 
+/// Makes room for so many more numbers. Mostly there is room, which the caller sees in place.
+#[inline(always)]
+fn make_room<T>(numbers: &mut Vec<T>, more: usize) -> Result<(), AllocError>
+    ensures { numbers.new.items ≡ numbers.old.items }
+{
+    if more <= numbers.capacity() - numbers.len() {
+        return Ok(());
+    }
+    grow(numbers, more)
+}
+
+/// The same where there is none.
+#[inline(never)]
+fn grow<T>(numbers: &mut Vec<T>, more: usize) -> Result<(), AllocError>
+    ensures { numbers.new.items ≡ numbers.old.items }
+{
+    let len = numbers.len();
+    let ahead = if len < MANY { len } else { len / 4 };
+    numbers.reserve_exact(more.max(ahead))
+}
+
 /// Whether each code point is below 128. It looks at all of them, so that no branch stands in the loop.
 fn are_ascii(codes: &[u32]) -> bool
     ensures { result ≡ list_all is_ascii codes.now }
@@ -163,6 +190,7 @@ fn append_narrow(numbers: &mut Vec<i8>, run: &[u32]) -> Result<(), AllocError>
     if run.len() >= usize::MAX - start {
         return Err(AllocError);
     }
+    make_room(numbers, run.len())?;
     numbers.resize(start + run.len(), 0)?;
     copy_narrow(run, &mut numbers[start..]);
     Ok(())
@@ -189,6 +217,7 @@ fn append_wide(numbers: &mut Vec<i32>, run: &[u32]) -> Result<(), AllocError>
         return append_few(numbers, run);
     }
     let start = numbers.len();
+    make_room(numbers, run.len())?;
     match append_parts(numbers, run) {
         Ok(()) => Ok(()),
         Err(error) => {
@@ -208,6 +237,7 @@ fn append_few(numbers: &mut Vec<i32>, run: &[u32]) -> Result<(), AllocError>
     if run.len() >= usize::MAX - start {
         return Err(AllocError);
     }
+    make_room(numbers, run.len())?;
     numbers.resize(start + run.len(), 0)?;
     copy_wide(run, &mut numbers[start..]);
     Ok(())
