@@ -88,22 +88,7 @@ whole_lines_are_singles lines y all =
     line_feed_of_lines true = refl
     line_feed_of_lines false = refl
 
--- ---- printable ASCII
-
-pub ascii_of_lines : (c : ℕ) → ((nat_le 0x20 c && nat_le c 0x7E) || (c == 0xA)) ≡ true → is_of_plain_lines c ≡ true
-ascii_of_lines c = by (nat_le 0x20 c && nat_le c 0x7E) refl
-  where
-    or_true : (b : Bool) → (b || true) ≡ true
-    or_true true = refl
-    or_true false = refl
-
-    by : (b : Bool) → (nat_le 0x20 c && nat_le c 0x7E) ≡ b → (b || (c == 0xA)) ≡ true → is_of_plain_lines c ≡ true
-    by true e h =
-        let parts = and_parts (nat_le 0x20 c) (nat_le c 0x7E) e in
-        ap (λ p. p || (c == 0xA)) (printable_ascii_is_plain c (leb-true 0x20 c parts.0) (leb-true c 0x7E parts.1))
-    by false e h = ap (λ x. is_plain c || x) h ∙ or_true (is_plain c)
-
--- ---- letters of Latin, syllables of Hangul
+-- ---- code points of one script, in 16 bits
 
 range_of_lines : (first last c : ℕ) → ArePlainFrom first last → (nat_le first c && nat_le c last) ≡ true → is_of_plain_lines c ≡ true
 range_of_lines first last c plain h =
@@ -114,11 +99,6 @@ range_of_lines first last c plain h =
 pub either_so : (a b : Bool) {x : Bool} → (a ≡ true → x ≡ true) → (b ≡ true → x ≡ true) → (a || b) ≡ true → x ≡ true
 either_so true b one other h = one refl
 either_so false b one other h = other h
-
-pub letter_of_lines : (c : ℕ) → ((nat_le 0xC0 c && nat_le c 0x2FF) || (nat_le 0xAC00 c && nat_le c 0xD7A3)) ≡ true → is_of_plain_lines c ≡ true
-letter_of_lines c = either_so _ _ (range_of_lines 0xC0 0x2FF c latin_are_plain) (range_of_lines 0xAC00 0xD7A3 c syllables_are_plain)
-
--- ---- the scripts of East Asia, in 16 bits
 
 low_range : (first last c : ℕ) → ArePlainFrom first last → last < 0xFFFF → (nat_le first c && nat_le c last) ≡ true → is_of_low_lines c ≡ true
 low_range first last c plain low h =
@@ -132,13 +112,23 @@ low_line_feed c h = subst (λ x. is_of_low_lines x ≡ true) (sym (eqb-true c 0x
     of_line true = refl
     of_line false = refl
 
+pub ascii_of_lines : (c : ℕ) → (nat_le 0x20 c && nat_le c 0x7E || (c == 0xA)) ≡ true → is_of_low_lines c ≡ true
+ascii_of_lines c = either_so _ _ (low_range 0x20 0x7E c printable_ascii_is_plain (omega arith)) (low_line_feed c)
+
+pub letters_of_lines : (c : ℕ)
+    → (nat_le 0x20 c && nat_le c 0x7E || (c == 0xA) || (nat_le 0xC0 c && nat_le c 0x2FF) || (nat_le 0x2010 c && nat_le c 0x2027) || (nat_le 0xAC00 c && nat_le c 0xD7A3)) ≡ true
+    → is_of_low_lines c ≡ true
+letters_of_lines c =
+    either_so _ _ (either_so _ _ (either_so _ _ (ascii_of_lines c)
+    (low_range 0xC0 0x2FF c latin_are_plain (omega arith))) (low_range 0x2010 0x2027 c punctuation_are_plain (omega arith)))
+    (low_range 0xAC00 0xD7A3 c syllables_are_plain (omega arith))
+
 pub east_asian_of_lines : (c : ℕ)
     → (nat_le 0x20 c && nat_le c 0x7E || (c == 0xA) || (nat_le 0x2010 c && nat_le c 0x2027) || (nat_le 0x2E00 c && nat_le c 0x3029) || (nat_le 0x303E c && nat_le c 0x3098)
     || (nat_le 0x309B c && nat_le c 0x3296) || (nat_le 0x329A c && nat_le c 0xA66E) || (nat_le 0xAC00 c && nat_le c 0xD7A3) || (nat_le 0xFF00 c && nat_le c 0xFF9D)) ≡ true
     → is_of_low_lines c ≡ true
 east_asian_of_lines c =
-    either_so _ _ (either_so _ _ (either_so _ _ (either_so _ _ (either_so _ _ (either_so _ _ (either_so _ _ (either_so _ _
-    (low_range 0x20 0x7E c printable_ascii_is_plain (omega arith)) (low_line_feed c))
+    either_so _ _ (either_so _ _ (either_so _ _ (either_so _ _ (either_so _ _ (either_so _ _ (either_so _ _ (ascii_of_lines c)
     (low_range 0x2010 0x2027 c punctuation_are_plain (omega arith))) (low_range 0x2E00 0x3029 c radicals_are_plain (omega arith)))
     (low_range 0x303E 0x3098 c hiragana_are_plain (omega arith))) (low_range 0x309B 0x3296 c katakana_are_plain (omega arith)))
     (low_range 0x329A 0xA66E c ideographs_are_plain (omega arith))) (low_range 0xAC00 0xD7A3 c syllables_are_plain (omega arith)))

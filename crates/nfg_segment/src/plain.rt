@@ -11,6 +11,15 @@ const BLOCK: usize = 16;
 /// How many are looked at one by one before.
 const FEW: usize = 4;
 
+/// Of what a block is told to be alone: ASCII; letters of Latin and syllables of Hangul as well; or what is
+/// written in East Asia.
+#[derive(Clone, Copy)]
+enum Script {
+    Ascii,
+    Letters,
+    EastAsian,
+}
+
 /// How many code points of plain lines the text begins with. Few are soon found; many are counted
 /// by blocks.
 #[inline(always)]
@@ -26,7 +35,8 @@ pub(crate) fn plain_lines_len(text: &[u32]) -> usize
     many_lines(text, some)
 }
 
-/// How many code points of plain lines the text begins with, of which `from` are known.
+/// How many code points of plain lines the text begins with, of which `from` are known. Blocks of ASCII are
+/// told at once. Behind another block, which is told one by one, blocks of other scripts are too.
 #[inline(never)]
 fn many_lines(text: &[u32], from: usize) -> usize
     requires from { from ≤ length text.now }
@@ -34,62 +44,33 @@ fn many_lines(text: &[u32], from: usize) -> usize
     ensures within { result ≤ length text.now }
     ensures plain { ArePlainLines (take result text.now) }
 {
-    let mut at = from;
+    let mut at = past_blocks(text, from, Script::Ascii);
     while text.len() - at >= BLOCK {
-        let next = lines_in_block(text, at, at != from);
-        if next < at + BLOCK {
+        let end = at + BLOCK;
+        let next = lines_up_to(text, at, end);
+        if next < end {
             return next;
         }
-        at = next;
+        at = past_blocks(text, end, Script::Letters);
+        at = past_blocks(text, at, Script::EastAsian);
     }
     lines_up_to(text, at, text.len())
 }
 
-/// How many code points of plain lines the text begins with, of which `from` are known, as far as
-/// the end of the block there.
+/// The place from which on the next block is not of this script alone, from one on up to which all is known.
 #[inline(always)]
-fn lines_in_block(text: &[u32], from: usize, goes_on: bool) -> usize
+fn past_blocks(text: &[u32], from: usize, script: Script) -> usize
+    requires from { from ≤ length text.now }
     requires known { ArePlainLines (take from text.now) }
-    requires block { from + 16 ≤ length text.now }
     ensures from { from ≤ result }
-    ensures within { result ≤ from + 16 }
+    ensures within { result ≤ length text.now }
     ensures plain { ArePlainLines (take result text.now) }
 {
-    let end = from + BLOCK;
-    if are_lines_at_once(script_before(text, from), &text[from..end], goes_on) {
-        return end;
+    let mut at = from;
+    while text.len() - at >= BLOCK && are_lines_of(script, &text[at..at + BLOCK]) {
+        at += BLOCK;
     }
-    lines_up_to(text, from, end)
-}
-
-/// The code point before the place, which says in what script the text goes on. At the start it is a
-/// space.
-#[inline(always)]
-fn script_before(text: &[u32], from: usize) -> u32
-    requires { from ≤ length text.now }
-{
-    if from > 0 { text[from - 1] } else { 0x20 }
-}
-
-/// Whether every code point is of plain lines, where vectors may soon tell: behind ASCII where all are of it, and
-/// in a text that goes on where they are letters of Latin or syllables of Hangul as well, or of the scripts of East
-/// Asia. It may be false of any block.
-#[inline(always)]
-fn are_lines_at_once(before: u32, block: &[u32], goes_on: bool) -> bool
-    requires { length block.now ≡ 16 }
-    ensures { IsTrue result → ArePlainLines block.now }
-{
-    let is_ascii = before < 0x80;
-    if is_ascii && are_ascii_lines(block) {
-        return true;
-    }
-    if !goes_on {
-        return false;
-    }
-    if is_ascii || is_letter(before) {
-        return are_letter_lines(block);
-    }
-    before >= 0x2010 && are_east_asian_lines(block)
+    at
 }
 
 /// How many code points of plain lines the text begins with, of which `from` are known, as far as
@@ -142,63 +123,15 @@ fn is_of_plain_lines(c: u32) -> bool
     is_plain(c) || c == 0xA
 }
 
-/// Whether every code point is printable ASCII or a line feed. There is no branch in the loop, so
-/// that it becomes vectors.
+/// Whether every code point is of plain lines in this script, by vectors of 16 bits.
 #[inline(always)]
-fn are_ascii_lines(block: &[u32]) -> bool
-    ensures { IsTrue result → ArePlainLines block.now }
-{
-    let mut all = true;
-    for c in block {
-        all &= is_of_ascii_lines(*c);
-    }
-    all
-}
-
-#[inline(always)]
-fn is_of_ascii_lines(c: u32) -> bool
-    ensures { IsTrue result → is_of_plain_lines c ≡ true }
-{
-    (0x20 <= c) & (c <= 0x7E) | (c == 0xA)
-}
-
-/// Whether every code point is printable ASCII, a line feed, a letter of Latin or a syllable of Hangul, by
-/// vectors too.
-#[inline(always)]
-fn are_letter_lines(block: &[u32]) -> bool
-    ensures { IsTrue result → ArePlainLines block.now }
-{
-    let mut all = true;
-    for c in block {
-        all &= is_of_letter_lines(*c);
-    }
-    all
-}
-
-#[inline(always)]
-fn is_of_letter_lines(c: u32) -> bool
-    ensures { IsTrue result → is_of_plain_lines c ≡ true }
-{
-    is_of_ascii_lines(c) | is_letter(c)
-}
-
-/// Whether it is a letter of Latin beyond ASCII or a syllable of Hangul, of those that stand together.
-#[inline(always)]
-fn is_letter(c: u32) -> bool
-    ensures { IsTrue result → is_of_plain_lines c ≡ true }
-{
-    (0xC0 <= c) & (c <= 0x2FF) | (0xAC00 <= c) & (c <= 0xD7A3)
-}
-
-/// Whether every code point is of plain lines of East Asia, by vectors of 16 bits, which hold twice as many.
-#[inline(always)]
-fn are_east_asian_lines(block: &[u32]) -> bool
+fn are_lines_of(script: Script, block: &[u32]) -> bool
     requires { length block.now ≡ 16 }
     ensures { IsTrue result → ArePlainLines block.now }
 {
     let mut low = [0; BLOCK];
     cap_all(block, &mut low);
-    are_low_lines(&low)
+    are_low_lines_of(script, &low)
 }
 
 /// Copies each number into 16 bits, the greatest one where it is greater.
@@ -219,15 +152,49 @@ fn capped(c: u32) -> u16
     if c < 0xFFFF { c as u16 } else { 0xFFFF }
 }
 
+/// There is no branch in the loop, so that it becomes vectors.
 #[inline(always)]
-fn are_low_lines(low: &[u16]) -> bool
+fn are_low_lines_of(script: Script, low: &[u16]) -> bool
     ensures { IsTrue result → list_all is_of_low_lines low.now ≡ true }
 {
     let mut all = true;
     for c in low {
-        all &= is_of_east_asian_lines(*c);
+        all &= is_of_lines_of(script, *c);
     }
     all
+}
+
+/// Whether it is of plain lines in this script.
+#[inline(always)]
+fn is_of_lines_of(script: Script, c: u16) -> bool
+    ensures { IsTrue result → is_of_low_lines c ≡ true }
+{
+    match script {
+        Script::Ascii => is_of_ascii_lines(c),
+        Script::Letters => is_of_letter_lines(c),
+        Script::EastAsian => is_of_east_asian_lines(c),
+    }
+}
+
+/// Whether it is printable ASCII or a line feed.
+#[inline(always)]
+fn is_of_ascii_lines(c: u16) -> bool
+    ensures { IsTrue result → is_of_low_lines c ≡ true }
+{
+    (0x20 <= c) & (c <= 0x7E) | (c == 0xA)
+}
+
+/// Whether it is one of these, a letter of Latin, a dash or quotation mark, or a syllable of Hangul, of those
+/// that stand together.
+#[inline(always)]
+fn is_of_letter_lines(c: u16) -> bool
+    ensures { IsTrue result → is_of_low_lines c ≡ true }
+{
+    (0x20 <= c) & (c <= 0x7E)
+        | (c == 0xA)
+        | (0xC0 <= c) & (c <= 0x2FF)
+        | (0x2010 <= c) & (c <= 0x2027)
+        | (0xAC00 <= c) & (c <= 0xD7A3)
 }
 
 /// Whether it is printable ASCII, a line feed, a dash or quotation mark, kana, an ideograph or its

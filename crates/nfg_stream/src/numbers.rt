@@ -54,8 +54,23 @@ impl Numbers {
         self.narrow.len() + self.wide.len()
     }
 
-    /// Adds a number at the end.
+    /// Adds a number at the end. Where there are some in 32 bits the caller does so in place.
+    #[inline(always)]
     pub(crate) fn push(&mut self, number: i32) -> Result<(), AllocError>
+        ensures pushed { OnOk result (self.new ≡ self.old ++ number ∷ []) }
+        ensures unchanged { OnErr result (self.new ≡ self.old) }
+    {
+        if self.wide.is_empty() {
+            return self.push_early(number);
+        }
+        make_room(&mut self.wide, 1)?;
+        self.wide.push(number)?;
+        Ok(())
+    }
+
+    /// The same where there are none.
+    #[inline(never)]
+    fn push_early(&mut self, number: i32) -> Result<(), AllocError>
         ensures pushed { OnOk result (self.new ≡ self.old ++ number ∷ []) }
         ensures unchanged { OnErr result (self.new ≡ self.old) }
     {
