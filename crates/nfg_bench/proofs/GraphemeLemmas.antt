@@ -1,5 +1,5 @@
 -- How many graphemes a text has.
-use Rattle.std.proofs.Common.{◌≡◌, ℕ, List, [], ◌∷◌, take, length, ◌+◌, Some, Ok, Err, suc, refl, sym, ap, length-append, arith}
+use Rattle.std.proofs.Common.{◌≡◌, ℕ, List, [], ◌∷◌, take, length, ◌+◌, Some, Result, Ok, Err, IfOk, suc, refl, sym, ap, length-append, arith}
 use Rattle.std.proofs.lemmas.Slice.Zip.{AllZip-long}
 use Rattle.std.specs.Prelude.{IsOkAnd}
 use Rattle.nfg_text.specs.Graphemes.{graphemes_of, ends_from}
@@ -9,6 +9,7 @@ use Rattle.nfg_syn.specs.Represents.{spelling}
 use Rattle.nfg_syn.specs.Seen.{Seen}
 use Rattle.nfg_strand.specs.Value.{Rope}
 use Rattle.nfg_stream.specs.Load.{HasLoaded}
+use Rattle.nfg_stream.specs.declared.error.LoadError.{LoadError}
 
 -- each part has one end
 pub length-ends_from : (from : ℕ) (parts : List (List ℕ)) → length (ends_from from parts) ≡ length parts
@@ -21,6 +22,12 @@ pub loaded_count : (decoded : Decoded) (old new : Seen) (made : Rope) → HasLoa
 loaded_count (Ok text) old new made loaded =
     sym (AllZip-long (λ n c. spelling new.known n ≡ Some c) made.graphemes (graphemes_of text) loaded.represents)
 loaded_count (Err place) old new made loaded = absurd loaded
+
+-- the same of what loading answers
+pub loaded_as_many : (decoded : Decoded) (old new : Seen) (made : Result Rope LoadError) → HasLoaded decoded old new made
+    → IfOk made (λ string. IsOkAnd decoded (λ text. length string.graphemes ≡ length (graphemes_of text)))
+loaded_as_many decoded old new (Ok string) loaded = loaded_count decoded old new string loaded
+loaded_as_many decoded old new (Err error) loaded = tt
 
 -- clusters are added one by one
 pub length-with_clusters : (given : Given) (more : List (List ℕ)) → length (with_clusters given more).heads ≡ length given.heads + length more

@@ -9,6 +9,7 @@ use crate::pipeline;
 use crate::texts::{self, LONG, MOST, PIECE, SHORT};
 use crate::timing::{Comparison, compare_few};
 use nfg_decode::Encoding;
+use nfg_strand::NString;
 use nfg_stream::{DecodeStream, LoadError};
 use std::alloc::Global;
 use std::io;
@@ -29,17 +30,16 @@ fn feed_all(alloc: Global, stream: &mut DecodeStream, bytes: &[u8]) -> Result<()
     Ok(())
 }
 
-/// Loads a text over a table of its own, and answers how many graphemes it has.
-fn load(alloc: Global, bytes: &[u8]) -> Result<u64, LoadError>
+/// Loads a text over a table of its own.
+fn load(alloc: Global, bytes: &[u8]) -> Result<NString, LoadError>
     requires { length bytes.now ≤ 2 ^ 32 }
-    ensures { IfOk result (λ count. IsOkAnd (decode Utf8 bytes.now)
-        (λ text. count ≡ length (graphemes_of text))) }
+    ensures { IfOk result (λ string. IsOkAnd (decode Utf8 bytes.now)
+        (λ text. length string.graphemes ≡ length (graphemes_of text))) }
 {
     let (table, mut pass) = pipeline::new_table(alloc)?;
     let mut stream = DecodeStream::new(alloc, Encoding::Utf8);
     feed_all(alloc, &mut stream, bytes)?;
-    let string = stream.finish(alloc, &table, &mut pass)?;
-    Ok(string.len())
+    stream.finish(alloc, &table, &mut pass)
 }
 
 /// How many graphemes the bytes have, and none where they are refused.
@@ -50,7 +50,10 @@ fn count(alloc: Global, bytes: &[u8]) -> usize
     if bytes.len() > MOST {
         return 0;
     }
-    load(alloc, bytes).unwrap_or(0) as usize
+    match load(alloc, bytes) {
+        Ok(string) => string.len() as usize,
+        Err(_) => 0,
+    }
 }
 
 /// The same by the plain way, if the bytes are a text and there is memory for it.
@@ -119,6 +122,38 @@ impl Comparison for Long<'_> {
     }
 }
 
+/// Loads each part of the bytes, keeps the strings until all are loaded, and answers how many graphemes they have.
+fn count_kept(alloc: Global, bytes: &[u8], len: usize) -> Result<usize, LoadError> {
+    let mut strings = Vec::new(alloc);
+    let mut graphemes: usize = 0;
+    for part in bytes.chunks(len.clamp(1, MOST)) {
+        let string = load(alloc, part)?;
+        graphemes = graphemes.wrapping_add(string.len() as usize);
+        if strings.push(string).is_err() {
+            return Err(LoadError::OutOfMemory);
+        }
+    }
+    Ok(graphemes)
+}
+
+/// A long text beside as many bytes of short ones whose strings are all kept, so that both take as much memory.
+#[derive(Drop)]
+struct Kept<'a> {
+    alloc: Global,
+    bytes: &'a [u8],
+    short: usize,
+}
+
+impl Comparison for Kept<'_> {
+    fn fast(&self, _run: usize) -> usize {
+        count(self.alloc, self.bytes)
+    }
+
+    fn plain(&self, _run: usize) -> usize {
+        count_kept(self.alloc, self.bytes, self.short).unwrap_or(0)
+    }
+}
+
 fn report_text(
     rt: &(impl Print + Clock),
     alloc: Global,
@@ -141,6 +176,16 @@ fn report_text(
         " 16 MiB by 1 MiB",
         bytes.len(),
         &Long {
+            alloc,
+            bytes,
+            short,
+        },
+    )?;
+    compare_few(
+        rt,
+        " 16 MiB by 1 MiB, all kept",
+        bytes.len(),
+        &Kept {
             alloc,
             bytes,
             short,
