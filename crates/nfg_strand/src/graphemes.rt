@@ -1,6 +1,6 @@
 //! The graphemes of a string, one after another.
 
-ghost use Rattle.std.specs.Prelude.{◌≡◌, ◌∷◌, ◌++◌, [], MatchOption};
+ghost use Rattle.std.specs.Prelude.{◌≡◌, ◌∷◌, ◌++◌, [], MatchOption, drop, length, min, take};
 ghost use Rattle.std.specs.Iterator.{YieldsFirst, item_count};
 ghost use Rattle.nfg_strand.specs.Strand.{graphemes};
 
@@ -67,6 +67,23 @@ impl<'a> Graphemes<'a> {
             run: Run::empty(),
             rest: Place::new(strands),
         }
+    }
+
+    /// Reads the next graphemes into the front of a slice, as many as there are and as it has room
+    /// for: how many. It goes a block range at a time.
+    pub fn read(&mut self, into: &mut [i32]) -> usize
+        ensures count { result ≡ min (length into.old) (length self.old) }
+        ensures read { into.new ≡ take result self.old ++ drop result into.old }
+        ensures left { self.new ≡ drop result self.old }
+    {
+        let mut count = self.run.read(into);
+        while count < into.len() && !self.rest.is_empty() {
+            let (run, after) = self.rest.share().take_run();
+            self.run = run;
+            self.rest = after;
+            count += self.run.read(&mut into[count..]);
+        }
+        count
     }
 }
 
