@@ -1,5 +1,5 @@
 -- Lemmas on ranges of lists.
-use Rattle.std.proofs.Common.{◌≡◌, ℕ, zero, suc, ◌+◌, ◌-◌, ◌<◌, ◌≤◌, min, List, [], ◌∷◌, ◌++◌, length, get_or, take, drop, refl, ap, ap₂, sym, ◌∙◌, arith, append_assoc, append-nil, length-drop, length-take-le, get_or-drop, get_or-take}
+use Rattle.std.proofs.Common.{◌≡◌, ℕ, zero, suc, ◌+◌, ◌-◌, ◌<◌, ◌≤◌, min, List, [], ◌∷◌, ◌++◌, length, get_or, take, drop, refl, ap, ap₂, sym, ◌∙◌, arith, append_assoc, append-nil, length-append, length-drop, length-take-le, get_or-drop, get_or-take}
 use Rattle.std.proofs.lemmas.List.{drop_all, drop_at, drop-append-le, drop-drop, drop-take, take-append-le, take-take, take_min, take_rest, drop_min, take-append-drop, take_at}
 use Rattle.std.proofs.lemmas.Slice.{take-put_mid}
 use borrow.Rule.Slice.PartMut.{put_mid}
@@ -134,3 +134,20 @@ module _ {A : Type 0} where
       ap₂ ◌++◌ old_front (ap₂ ◌++◌ part_is none ∙ append-nil _)
       ∙ sym (append_assoc (take at all) (take n (drop at all)) (drop (at + n) start))
       ∙ ap (λ xs. xs ++ drop (at + n) start) (sym (take-add at n all))
+
+  -- a list that is a range and another list behind it: its first n lie in the range, and the rest goes on from there
+  module _ (xs ys all : List A) (a b n : ℕ) (ordered : a + n ≤ b) (inside : b ≤ length xs) (is : slice_range xs a b ++ ys ≡ all) where
+    parts : all ≡ take n (drop a xs) ++ (slice_range xs (a + n) b ++ ys)
+    parts = sym is ∙ ap (λ zs. zs ++ ys) (slice_range-split xs a b n ordered) ∙ append_assoc (take n (drop a xs)) (slice_range xs (a + n) b) ys
+
+    pub front_len : length (take n (drop a xs)) ≡ n
+    front_len = length-take-le n (drop a xs) (simp length-drop (omega arith))
+
+    pub range_inside : n ≤ length all
+    range_inside = omega (arith, ap length parts, length-append (take n (drop a xs)) (slice_range xs (a + n) b ++ ys), front_len)
+
+    pub range_front : take n all ≡ take n (drop a xs)
+    range_front = ap (take n) parts ∙ take_at (take n (drop a xs)) (slice_range xs (a + n) b ++ ys) n front_len
+
+    pub range_rest : slice_range xs (a + n) b ++ ys ≡ drop n all
+    range_rest = sym (ap (drop n) parts ∙ drop_at (take n (drop a xs)) (slice_range xs (a + n) b ++ ys) n front_len)

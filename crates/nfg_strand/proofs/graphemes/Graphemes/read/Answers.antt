@@ -1,30 +1,46 @@
--- the next block range goes to what is left of the slice
-use Rattle.std.proofs.Common.{◌≡◌, ◌-◌, ◌≤◌, ◌++◌, [], length, drop, ap, sym, ◌∙◌, arith, rules, length-append, length-drop}
-use Rattle.std.proofs.lemmas.List.{drop_all, take_rest}
-use borrow.Rule.Slice.PartMut.{put_mid}
-use Rattle.nfg_strand.proofs.Ranges.{drop-rest, put_mid-next}
+-- what is read ahead comes first, and the source after it
+use Rattle.std.proofs.Common.{◌≡◌, ◌+◌, ◌-◌, ◌≤◌, ◌++◌, [], length, take, drop, ap, sym, ◌∙◌, arith, append-nil, length-append, length-drop}
+use Rattle.std.proofs.lemmas.List.{drop-drop, take-take}
+use Rattle.nfg_strand.proofs.Ranges.{front_len, range_front, range_inside, range_rest, put_mid-next}
 use Rattle.nfg_strand.proofs.graphemes.Graphemes.read.Goals as goal
 
-pub loop-count-preserved : goal.loop-count-preserved
-loop-count-preserved c =
-    let at = c.loop-count.count in
-    let count = c.read-count-in-loop-count.result in
-    let next = c.take_run-run.result.0 in
-    let after = c.take_run-run.result.1 in
+pub returns-then-count-into-clause-left : goal.returns-then-count-into-clause-left
+returns-then-count-into-clause-left c =
+    let i = c.self.inside in
+    range_rest i.buffer i.source c.args.self.now i.at i.filled c.min-count.result (omega (arith, c.min-count.ensures, c.self.invariant.0))
+    (omega (arith, c.self.invariant.1, c.self.told)) c.self.view_is
+
+pub returns-clause-left : goal.returns-clause-left
+returns-clause-left c =
+    let i = c.self.inside in
+    let count = c.min-count.result in
+    let ahead : i.at + count ≤ i.filled = omega (arith, c.min-count.ensures, c.self.invariant.0) in
+    let inside : i.filled ≤ length i.buffer = omega (arith, c.self.invariant.1, c.self.told) in
+    let few : count ≤ 64 - i.at = omega (arith, ahead, c.self.invariant.1) in
+    let copied = c.copy_from_slice.ensures.after ∙ take-take count (64 - i.at) (drop i.at i.buffer) few in
+    let written = ap length copied ∙ front_len i.buffer i.source c.args.self.now i.at i.filled count ahead inside c.self.view_is in
+    let none : i.filled - (i.at + count) ≡ 0 =
+    omega (arith, c.min-count.ensures, c.if-count-into.false, written, length-append c.copy_from_slice.new.self (drop count c.args.into.now), length-drop count c.args.into.now) in
+    let reached = range_rest i.buffer i.source c.args.self.now i.at i.filled count ahead inside c.self.view_is in
+    ap (λ n. take n (drop (i.at + count) i.buffer) ++ c.read.new.self) none ∙ c.read.ensures.left
+    ∙ ap (drop c.read.result) (ap (λ n. take n (drop (i.at + count) i.buffer) ++ i.source) (sym none) ∙ reached) ∙ drop-drop c.read.result count c.args.self.now
+
+pub returns-clause-read : goal.returns-clause-read
+returns-clause-read c =
+    let i = c.self.inside in
+    let count = c.min-count.result in
     let all = c.args.self.now in
-    let ended : c.loop-count.self-inside.run ≡ [] = c.loop-count.invariant.over (search rules) in
-    let reached : next ++ after ≡ drop at all =
-    sym c.take_run-run.ensures.all ∙ c.share.ensures ∙ ap (λ xs. xs ++ c.loop-count.self-inside.rest) (sym ended) ∙ c.loop-count.invariant.left in
-    let within : count ≤ length next = omega (arith, c.read-count-in-loop-count.ensures.count) in
-    let same_len : length (put_mid at (length c.loop-count.into - at) c.loop-count.into c.read-count-in-loop-count.new.into) ≡ length c.loop-count.into = search rules in
-    record {
-      inside = omega (arith, c.loop-count.invariant.inside, ap length reached, length-append next after, length-drop at all);
-      room = search rules;
-      high = search rules;
-      left = drop-rest all next after _ at count reached within c.read-count-in-loop-count.ensures.left;
-      read = put_mid-next all next after c.args.into.now c.loop-count.into _ at count c.loop-count.invariant.inside within reached
-          c.loop-count.invariant.read c.read-count-in-loop-count.ensures.read;
-      over = λ more.
-          let slice_len = ap length (take_rest c.loop-count.into at) ∙ length-drop at c.loop-count.into in
-          c.read-count-in-loop-count.ensures.left ∙ drop_all count next (omega (arith, more, same_len, slice_len, c.read-count-in-loop-count.ensures.count));
-    }
+    let into = c.args.into.now in
+    let ahead : i.at + count ≤ i.filled = omega (arith, c.min-count.ensures, c.self.invariant.0) in
+    let inside : i.filled ≤ length i.buffer = omega (arith, c.self.invariant.1, c.self.told) in
+    let few : count ≤ 64 - i.at = omega (arith, ahead, c.self.invariant.1) in
+    let copied = c.copy_from_slice.ensures.after ∙ take-take count (64 - i.at) (drop i.at i.buffer) few in
+    let written = ap length copied ∙ front_len i.buffer i.source all i.at i.filled count ahead inside c.self.view_is in
+    let front = copied ∙ sym (range_front i.buffer i.source all i.at i.filled count ahead inside c.self.view_is) in
+    let none : i.filled - (i.at + count) ≡ 0 =
+    omega (arith, c.min-count.ensures, c.if-count-into.false, written, length-append c.copy_from_slice.new.self (drop count into), length-drop count into) in
+    let reached = range_rest i.buffer i.source all i.at i.filled count ahead inside c.self.view_is in
+    let source : i.source ++ [] ≡ drop count all = append-nil i.source ∙ ap (λ n. take n (drop (i.at + count) i.buffer) ++ i.source) (sym none) ∙ reached in
+    put_mid-next all i.source [] into (c.copy_from_slice.new.self ++ drop count into) c.read.new.into count c.read.result
+    (range_inside i.buffer i.source all i.at i.filled count ahead inside c.self.view_is) (omega (arith, c.read.ensures.count)) source
+    (ap (λ xs. xs ++ drop count into) front) c.read.ensures.read

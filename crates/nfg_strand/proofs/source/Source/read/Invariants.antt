@@ -1,5 +1,5 @@
 use Rattle.std.proofs.Common.{◌≡◌, ◌-◌, ◌<◌, ◌≤◌, [], ◌++◌, length, take, drop}
-use Rattle.nfg_strand.proofs.graphemes.Graphemes.read.Given as goal
+use Rattle.nfg_strand.proofs.source.Source.read.Given as goal
 
 -- the front of the slice has what is passed over, and a run that still has graphemes fills the slice
 abbrev pub invariant-loop-count : goal.invariant-loop-count
