@@ -1,9 +1,10 @@
 -- Searches and comparisons, element by element.
-use Rattle.std.proofs.Common.{◌≡◌, ℕ, ◌+◌, ◌-◌, ◌<◌, ◌≤◌, Bool, true, false, cond, List, [], ◌∷◌, zero, suc, inl, inr, ap, length, get_or, take, drop, slice_range, reverse, min, ap₂, ◌∙◌, arith}
-use Rattle.std.proofs.lemmas.Bool.{cases_lt}
-use Rattle.std.proofs.lemmas.List.{length-drop, length-reverse, get_or-reverse}
-use Rattle.std.proofs.lemmas.List.Sums.{common_prefix_len-le, common_prefix_len-drop_no, common_prefix_len-drop_yes}
-use Rattle.std.specs.List.{common_prefix_len}
+use Rattle.std.proofs.Common.{◌≡◌, ℕ, ◌+◌, ◌-◌, ◌<◌, ◌≤◌, Bool, true, false, cond, eqb, List, [], ◌∷◌, zero, suc, inl, inr, ap, length, get_or, take, drop, slice_range, reverse, min, sym, ap₂, ◌∙◌, arith, length-take-le}
+use Rattle.std.proofs.lemmas.Bool.{cases_lt, eq-eqb, ne_eqb}
+use Rattle.std.proofs.lemmas.List.{take-append-drop, length-drop, length-reverse, get_or-reverse}
+use Rattle.std.proofs.lemmas.List.Folds.{prefix_len-append}
+use Rattle.std.proofs.lemmas.List.Sums.{prefix_len-le-length, common_prefix_len-le, common_prefix_len-drop_no, common_prefix_len-drop_yes}
+use Rattle.std.specs.List.{common_prefix_len, prefix_len}
 
 -- the whole of the shorter list is in common
 pub all_in_common : {X Y : Type 0} (same : X → Y → Bool) (xs : List X) (ys : List Y) (i len : ℕ)
@@ -74,3 +75,21 @@ ranges_in_common same xs ys start count all =
       length-drop start xs,
       length-drop start ys,
     )
+
+-- how many elements at the front pass, by the first n elements: fewer than those, or all of them and some behind
+module _ {X : Type 0} (p : X → Bool) (xs : List X) (n : ℕ) (inside : n ≤ length xs) where
+  front_is : prefix_len p xs
+      ≡ cond (eqb (prefix_len p (take n xs)) (length (take n xs))) (length (take n xs) + prefix_len p (drop n xs)) (prefix_len p (take n xs))
+  front_is = ap (prefix_len p) (sym (take-append-drop n xs)) ∙ prefix_len-append p (take n xs) (drop n xs)
+
+  pub prefix_len-within : prefix_len p (take n xs) < n → prefix_len p xs ≡ prefix_len p (take n xs)
+  prefix_len-within fewer =
+      front_is ∙ ap (λ b. cond b (length (take n xs) + prefix_len p (drop n xs)) (prefix_len p (take n xs)))
+      (ne_eqb _ _ (omega (arith, fewer, length-take-le n xs inside)))
+
+  pub prefix_len-behind : n ≤ prefix_len p (take n xs) → prefix_len p xs ≡ n + prefix_len p (drop n xs)
+  prefix_len-behind all =
+      let len = length-take-le n xs inside in
+      let whole : prefix_len p (take n xs) ≡ length (take n xs) = omega (arith, all, len, prefix_len-le-length p (take n xs)) in
+      front_is ∙ ap (λ b. cond b (length (take n xs) + prefix_len p (drop n xs)) (prefix_len p (take n xs))) (eq-eqb _ _ whole)
+      ∙ ap (λ m. m + prefix_len p (drop n xs)) len

@@ -3,6 +3,7 @@ ghost use Rattle.std.specs.Prelude.{◌≡◌, ◌%◌, negsuc, drop};
 ghost use Rattle.std.specs.List.{common_prefix_len, position_or_len};
 ghost use Rattle.std.specs.Ordering.{int_eq};
 
+use crate::plain::first_equal32;
 use crate::timing::{Comparison, compare, compare_few};
 use nfg_ops::substring;
 use nfg_strand::NString;
@@ -22,6 +23,9 @@ const SEARCHED: u32 = 1 << 18;
 
 /// A run cuts so many parts, since one takes less than the clock tells.
 const PARTS: usize = 64;
+
+/// So many graphemes are read at a time.
+const BUFFER: usize = 256;
 
 /// More graphemes than a string may have.
 const TOO_LONG: u64 = 1 << 40;
@@ -88,6 +92,40 @@ impl Comparison for Cutting<'_> {
     }
 }
 
+/// The place of the first -1, or the length, grapheme by grapheme.
+fn walk(string: &NString) -> usize
+    ensures { result ≡ position_or_len (λ y. int_eq y (negsuc 0)) string.now.graphemes }
+{
+    let len = string.len() as usize;
+    let mut at: usize = 0;
+    for grapheme in string.iter() {
+        if grapheme == -1 {
+            return at;
+        }
+        at = at.wrapping_add(1);
+    }
+    len
+}
+
+/// The same by a walk that reads a part at a time, and looks at each grapheme in it.
+fn walk_by_parts(string: &NString) -> usize
+    ensures { result ≡ position_or_len (λ y. int_eq y (negsuc 0)) string.now.graphemes }
+{
+    let len = string.len() as usize;
+    let mut left = string.iter();
+    let mut part = [0; BUFFER];
+    let mut at: usize = 0;
+    while at < len {
+        let count = left.read(&mut part);
+        let place = first_equal32(&part[..count], -1);
+        if place < count {
+            return at + place;
+        }
+        at += count;
+    }
+    len
+}
+
 /// A search for a grapheme that is not there.
 #[derive(Drop)]
 struct Finding<'a> {
@@ -105,15 +143,29 @@ impl Comparison for Finding<'_> {
         ensures { result
             ≡ position_or_len (λ y. int_eq y (negsuc 0)) self.now.string.now.graphemes }
     {
-        let len = self.string.len() as usize;
-        let mut at: usize = 0;
-        for grapheme in self.string.iter() {
-            if grapheme == -1 {
-                return at;
-            }
-            at = at.wrapping_add(1);
-        }
-        len
+        walk(self.string)
+    }
+}
+
+/// A walk that reads many graphemes at a time, beside one that takes each by itself.
+#[derive(Drop)]
+struct Walking<'a> {
+    string: &'a NString,
+}
+
+impl Comparison for Walking<'_> {
+    fn fast(&self, _run: usize) -> usize
+        ensures { result
+            ≡ position_or_len (λ y. int_eq y (negsuc 0)) self.now.string.now.graphemes }
+    {
+        walk_by_parts(self.string)
+    }
+
+    fn plain(&self, _run: usize) -> usize
+        ensures { result
+            ≡ position_or_len (λ y. int_eq y (negsuc 0)) self.now.string.now.graphemes }
+    {
+        walk(self.string)
     }
 }
 
@@ -166,6 +218,8 @@ pub fn report(rt: &(impl Print + Clock), alloc: Global) -> io::Result<()> {
     let len = SEARCHED as usize;
     compare_few(rt, "find, 16 strands", len, &Finding { string: a })?;
     compare_few(rt, "find, one strand", len, &Finding { string: b })?;
+    compare_few(rt, "read, 16 strands", len, &Walking { string: a })?;
+    compare_few(rt, "read, one strand", len, &Walking { string: b })?;
     compare_few(
         rt,
         "common_front, 16 strands by one",

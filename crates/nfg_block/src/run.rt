@@ -1,8 +1,9 @@
 //! A range of a block, read from the front.
 
-ghost use Rattle.std.specs.Prelude.{◌≡◌, []};
+ghost use Rattle.std.specs.Prelude.{◌≡◌, ◌++◌, [], drop, length, min, take};
 ghost use Rattle.std.specs.Iterator.{YieldsFirst, item_count};
 
+use nfg_lanes::widen;
 use std::marker::Model;
 
 /// The graphemes of a range of a block that are left, in order. It reads the block's cells in place.
@@ -50,6 +51,31 @@ impl<'a> Run<'a> {
     {
         Run {
             cells: RunCells::Wide(cells),
+        }
+    }
+
+    /// Reads the next graphemes into the front of a slice, as many as there are and as it has room
+    /// for: how many.
+    pub fn read(&mut self, into: &mut [i32]) -> usize
+        ensures count { result ≡ min (length into.old) (length self.old) }
+        ensures read { into.new ≡ take result self.old ++ drop result into.old }
+        ensures left { self.new ≡ drop result self.old }
+    {
+        match &mut self.cells {
+            RunCells::Narrow(left) => {
+                let cells = *left;
+                let count = into.len().min(cells.len());
+                widen(&cells[..count], &mut into[..count]);
+                *left = &cells[count..];
+                count
+            }
+            RunCells::Wide(left) => {
+                let cells = *left;
+                let count = into.len().min(cells.len());
+                into[..count].copy_from_slice(&cells[..count]);
+                *left = &cells[count..];
+                count
+            }
         }
     }
 }

@@ -87,3 +87,21 @@ fn ranges_of_both_widths_compare_and_are_searched(rt: HostRuntime) {
         }
     }
 }
+
+#[test]
+fn a_run_is_read_by_slices(rt: HostRuntime) {
+    for graphemes in [[97, -1, 127], [97, -2, 0]] {
+        let made = Block::from_graphemes(rt.alloc(), &graphemes);
+        assert!(rt; made.is_ok());
+        if let Ok(block) = &made {
+            assert!(rt; block.len() == 3);
+            let mut run = block.run(0, 3);
+            let mut part = [0; 2];
+            assert_eq!(rt; run.read(&mut part), 2);
+            assert_eq!(rt; part, [graphemes[0], graphemes[1]]);
+            assert_eq!(rt; run.read(&mut part), 1);
+            assert_eq!(rt; part, [graphemes[2], graphemes[1]]);
+            assert_eq!(rt; run.next(), None);
+        }
+    }
+}

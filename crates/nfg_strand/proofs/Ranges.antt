@@ -1,9 +1,9 @@
 -- Lemmas on ranges of lists.
-use Rattle.std.proofs.Common.{◌≡◌, ℕ, zero, suc, ◌+◌, ◌-◌, ◌<◌, ◌≤◌, min, List, [], ◌∷◌, ◌++◌, length, get_or, take, drop, refl, ap, ap₂, sym, ◌∙◌, arith, length-drop, length-take-le, get_or-drop, get_or-take}
-use Rattle.std.proofs.lemmas.List.{drop-drop, drop-take, take-take, take_min, drop_min, take-append-drop, take_at}
+use Rattle.std.proofs.Common.{◌≡◌, ℕ, zero, suc, ◌+◌, ◌-◌, ◌<◌, ◌≤◌, min, List, [], ◌∷◌, ◌++◌, length, get_or, take, drop, refl, ap, ap₂, sym, ◌∙◌, arith, append_assoc, append-nil, length-append, length-drop, length-take-le, get_or-drop, get_or-take}
+use Rattle.std.proofs.lemmas.List.{drop_all, drop_at, drop-append-le, drop-drop, drop-take, take-append-le, take-take, take_min, take_rest, drop_min, take-append-drop, take_at}
 use Rattle.std.proofs.lemmas.Slice.{take-put_mid}
 use borrow.Rule.Slice.PartMut.{put_mid}
-use Rattle.std.proofs.Math.Seq.{take-append-add}
+use Rattle.std.proofs.Math.Seq.{take-add, take-append-add}
 use Rattle.std.specs.Prelude.{slice_range, slice_get}
 
 module _ {A : Type 0} where
@@ -110,3 +110,44 @@ module _ {A : Type 0} where
       ∙ ap₂ ◌++◌ old (ap (take count) new ∙ take_at (take count (drop at source)) tail count new_len)
       ∙ ap (λ n. take at source ++ take n (drop at source)) (sym after)
       ∙ sym (take_split at (at + count) source (omega arith))
+
+  -- what is left after some elements of the first of two lists in a row
+  pub drop-rest : (all next after rest : List A) (at n : ℕ) → next ++ after ≡ drop at all → n ≤ length next → rest ≡ drop n next →
+      rest ++ after ≡ drop (at + n) all
+  drop-rest all next after rest at n reached within is =
+      ap (λ xs. xs ++ after) is ∙ sym (drop-append-le n next after within) ∙ ap (drop n) reached ∙ drop-drop n at all
+
+  -- a slice with the front of a list in its own front, after a write of the list's next elements behind that
+  pub put_mid-next : (all next after start into part : List A) (at n : ℕ) → at ≤ length all → n ≤ length next →
+      next ++ after ≡ drop at all → into ≡ take at all ++ drop at start →
+      part ≡ take n next ++ drop n (take (length into - at) (drop at into)) →
+      put_mid at (length into - at) into part ≡ take (at + n) all ++ drop (at + n) start
+  put_mid-next all next after start into part at n inside within reached front written =
+      let front_len = length-take-le at all inside in
+      let old_front : take at into ≡ take at all = ap (take at) front ∙ take_at (take at all) (drop at start) at front_len in
+      let old_rest : take (length into - at) (drop at into) ≡ drop at start =
+      take_rest into at ∙ ap (drop at) front ∙ drop_at (take at all) (drop at start) at front_len in
+      let elements : take n next ≡ take n (drop at all) = sym (take-append-le n next after within) ∙ ap (take n) reached in
+      let part_is : part ≡ take n (drop at all) ++ drop (at + n) start =
+      written ∙ ap₂ ◌++◌ elements (ap (drop n) old_rest ∙ drop-drop n at start) in
+      let none : drop (length into - at) (drop at into) ≡ [] = drop_all (length into - at) (drop at into) (omega (arith, length-drop at into)) in
+      ap₂ ◌++◌ old_front (ap₂ ◌++◌ part_is none ∙ append-nil _)
+      ∙ sym (append_assoc (take at all) (take n (drop at all)) (drop (at + n) start))
+      ∙ ap (λ xs. xs ++ drop (at + n) start) (sym (take-add at n all))
+
+  -- a list that is a range and another list behind it: its first n lie in the range, and the rest goes on from there
+  module _ (xs ys all : List A) (a b n : ℕ) (ordered : a + n ≤ b) (inside : b ≤ length xs) (is : slice_range xs a b ++ ys ≡ all) where
+    parts : all ≡ take n (drop a xs) ++ (slice_range xs (a + n) b ++ ys)
+    parts = sym is ∙ ap (λ zs. zs ++ ys) (slice_range-split xs a b n ordered) ∙ append_assoc (take n (drop a xs)) (slice_range xs (a + n) b) ys
+
+    pub front_len : length (take n (drop a xs)) ≡ n
+    front_len = length-take-le n (drop a xs) (simp length-drop (omega arith))
+
+    pub range_inside : n ≤ length all
+    range_inside = omega (arith, ap length parts, length-append (take n (drop a xs)) (slice_range xs (a + n) b ++ ys), front_len)
+
+    pub range_front : take n all ≡ take n (drop a xs)
+    range_front = ap (take n) parts ∙ take_at (take n (drop a xs)) (slice_range xs (a + n) b ++ ys) n front_len
+
+    pub range_rest : slice_range xs (a + n) b ++ ys ≡ drop n all
+    range_rest = sym (ap (drop n) parts ∙ drop_at (take n (drop a xs)) (slice_range xs (a + n) b ++ ys) n front_len)

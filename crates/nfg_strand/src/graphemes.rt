@@ -1,61 +1,34 @@
 //! The graphemes of a string, one after another.
 
-ghost use Rattle.std.specs.Prelude.{◌≡◌, ◌∷◌, ◌++◌, [], MatchOption};
+ghost use Rattle.std.specs.Prelude.{◌≡◌, ◌++◌, drop, length, min, take};
 ghost use Rattle.std.specs.Iterator.{YieldsFirst, item_count};
 ghost use Rattle.nfg_strand.specs.Strand.{graphemes};
 
-use crate::place::Place;
+use crate::source::Source;
 use crate::strand::Strand;
-use nfg_block::Run;
 use std::marker::Model;
 
-/// The graphemes that are left, in order.
+/// So many graphemes are read ahead.
+const AHEAD: usize = 64;
+
+/// The graphemes that are left, in order. It reads them ahead, a block range at a time.
 #[derive(Drop)]
 pub struct Graphemes<'a> {
-    // What is left of the block range that is read, and the place after it.
-    run: Run<'a>,
-    rest: Place<'a>,
+    // Those of `at..filled` are read and not given, and those of the source come after them.
+    buffer: [i32; AHEAD],
+    at: usize,
+    filled: usize,
+    source: Source<'a>,
 }
 
 impl<'a> Model for Graphemes<'a> {
-    ghost use Rattle.std.specs.Prelude.{ℤ, List, ◌++◌};
+    ghost use Rattle.std.specs.Prelude.{ℤ, List, ◌++◌, ◌≤◌, slice_range};
 
     ghost Value = { List ℤ };
 
-    ghost view = { λ g. g.run ++ g.rest };
-}
+    ghost view = { λ g. slice_range g.buffer g.at g.filled ++ g.source };
 
-// The first grapheme of the next block range, the others of it, and the place after it.
-#[inline(never)]
-fn next_run<'a>(rest: Place<'a>) -> Option<(i32, Run<'a>, Place<'a>)>
-    ensures { MatchOption result (rest.entry ≡ []) (λ r. rest.entry ≡ r.0 ∷ (r.1 ++ r.2)) }
-{
-    if rest.is_empty() {
-        return None;
-    }
-    let (mut run, after) = rest.take_run();
-    match run.next() {
-        Some(first) => Some((first, run, after)),
-        None => None,
-    }
-}
-
-// It is inlined, and lends out nothing but a copy of the place: a borrow would keep the iterator in
-// memory. The room for the answer is made here, and so for each block range and not each grapheme.
-#[inline(always)]
-fn refill<'a>(run: &mut Run<'a>, rest: &mut Place<'a>) -> Option<i32>
-    ensures { MatchOption result
-        ((rest.old ≡ []) × (rest.new ≡ []) × (run.new ≡ run.old))
-        (λ x. rest.old ≡ x ∷ (run.new ++ rest.new)) }
-{
-    match next_run(rest.share()) {
-        Some((first, others, after)) => {
-            *run = others;
-            *rest = after;
-            Some(first)
-        }
-        None => None,
-    }
+    ghost invariant = { λ g. (g.at ≤ g.filled) × (g.filled ≤ 64) };
 }
 
 impl<'a> Graphemes<'a> {
@@ -64,9 +37,27 @@ impl<'a> Graphemes<'a> {
         ensures { result ≡ graphemes strands.now }
     {
         Graphemes {
-            run: Run::empty(),
-            rest: Place::new(strands),
+            buffer: [0; AHEAD],
+            at: 0,
+            filled: 0,
+            source: Source::new(strands),
         }
+    }
+
+    /// Reads the next graphemes into the front of a slice, as many as there are and as it has room
+    /// for: how many. It goes a block range at a time.
+    pub fn read(&mut self, into: &mut [i32]) -> usize
+        ensures count { result ≡ min (length into.old) (length self.old) }
+        ensures read { into.new ≡ take result self.old ++ drop result into.old }
+        ensures left { self.new ≡ drop result self.old }
+    {
+        let count = into.len().min(self.filled - self.at);
+        into[..count].copy_from_slice(&self.buffer[self.at..][..count]);
+        self.at += count;
+        if count == into.len() {
+            return count;
+        }
+        count + self.source.read(&mut into[count..])
     }
 }
 
@@ -79,9 +70,16 @@ impl<'a> Iterator for Graphemes<'a> {
 
     #[inline(always)]
     fn next(&mut self) -> Option<i32> {
-        match self.run.next() {
-            Some(grapheme) => Some(grapheme),
-            None => refill(&mut self.run, &mut self.rest),
+        if self.at == self.filled {
+            let count = self.source.read(&mut self.buffer);
+            self.filled = count;
+            self.at = 0;
+            if count == 0 {
+                return None;
+            }
         }
+        let grapheme = self.buffer[self.at];
+        self.at += 1;
+        Some(grapheme)
     }
 }

@@ -7,6 +7,7 @@ mod join;
 mod piece;
 mod place;
 mod search;
+mod source;
 mod strand;
 mod string;
 

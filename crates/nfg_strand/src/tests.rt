@@ -223,6 +223,53 @@ fn strings_that_are_cut_otherwise_compare_alike(rt: HostRuntime) -> Result<(), F
     Ok(())
 }
 
+// Takes `skip` graphemes one by one, and reads the others by slices of `room`.
+fn read_by_parts(
+    rt: &impl Abort,
+    alloc: Global,
+    s: &NString,
+    skip: u64,
+    room: usize,
+) -> Result<(), Fail> {
+    let mut listed = Vec::new(alloc);
+    let mut left = s.iter();
+    for _ in 0..skip {
+        if let Some(grapheme) = left.next() {
+            listed.push(grapheme)?;
+        }
+    }
+    let mut part = vec![in alloc; 0; room]?;
+    for _ in 0..s.len() {
+        let count = left.read(part.as_mut_slice());
+        listed.extend_from_slice(&part.as_slice()[..count])?;
+    }
+    assert_eq!(rt; left.next(), None);
+    let mut got = Vec::new(alloc);
+    for k in 0..s.len() {
+        got.push(s.get(k))?;
+    }
+    assert_eq!(rt; listed.as_slice(), got.as_slice());
+    Ok(())
+}
+
+#[test]
+fn a_walk_goes_on_by_slices(rt: HostRuntime) -> Result<(), Fail> {
+    let alloc = rt.alloc();
+    let mut s = letters(&rt, alloc, 20)?;
+    let wide = NString::from_graphemes(alloc, &[-1, 233])?;
+    assert!(rt; wide.len() == 2);
+    append(&rt, alloc, &mut s, &wide.repeated(alloc, 40)?)?;
+    append(&rt, alloc, &mut s, &letters(&rt, alloc, 1)?)?;
+    assert_eq!(rt; s.len(), 143);
+    assert_eq!(rt; s.strands(), 3);
+    for room in [1, 3, 7, 100] {
+        for skip in [0, 1, 4, 62] {
+            read_by_parts(&rt, alloc, &s, skip, room)?;
+        }
+    }
+    Ok(())
+}
+
 fn is_shared<T: Send + Sync>(_: &T) {}
 
 #[test]

@@ -1,5 +1,5 @@
 -- Parts joined one after the other, each with a separator behind it.
-use Rattle.std.proofs.Common.{◌≡◌, ℕ, zero, suc, ◌+◌, ◌-◌, ◌<◌, ◌≤◌, List, [], ◌∷◌, ◌++◌, map, length, take, drop, slice_get, slice_index_or, slice_range, Some, Result, Ok, Err, OnOk, true, ℤ, refl, sym, ap, ◌∙◌, append_assoc, append-nil, length-append, arith}
+use Rattle.std.proofs.Common.{◌≡◌, ℕ, zero, suc, ◌+◌, ◌-◌, ◌<◌, ◌≤◌, List, [], ◌∷◌, ◌++◌, map, length, take, drop, slice_get, slice_index_or, Some, Result, Ok, Err, OnOk, true, ℤ, refl, sym, ap, ◌∙◌, append_assoc, append-nil, length-append, arith}
 use Rattle.std.specs.List.{join_with_byte, flat_map}
 use Rattle.std.proofs.Math.Seq.{take-append_seam}
 use Rattle.std.proofs.lemmas.List.Concat.{flat_map-append}
@@ -9,7 +9,6 @@ use Rattle.nfg_work.specs.Printing.{shown, shown_cluster}
 use Rattle.nfg_work.specs.Separated.{shown_with_space}
 use Rattle.nfg_syn.specs.Known.{Texts}
 use Rattle.nfg_syn.specs.Represents.{Represents, spelling}
-use Rattle.nfg_syn.specs.RepresentsLaws.{Represents-take, Represents-drop}
 
 -- the part, and the separator behind it
 abbrev pub closed : {X : Type 0} → ℕ → (X → List ℕ) → X → List ℕ
@@ -73,13 +72,6 @@ pub mapped-more : {X : Type 0} (f : X → List ℕ) (xs : List X) (i n : ℕ) (s
 mapped-more f xs i n start old new old_is new_is =
     new_is ∙ ap (λ v. v ++ flat_map f (take n (drop i xs))) old_is ∙ append_assoc start (flat_map f (take i xs)) (flat_map f (take n (drop i xs)))
     ∙ ap (λ v. start ++ v) (sym (ap (flat_map f) (take-more xs i n) ∙ flat_map-append f (take i xs) (take n (drop i xs))))
-
--- a range of the numbers stands for that range of the clusters
-pub represents-range : (known : Texts) (ns : List ℤ) (cs : List (List ℕ)) (at n : ℕ) → Represents known ns cs
-    → Represents known (slice_range ns at (at + n)) (take n (drop at cs))
-represents-range known ns cs at n are =
-    let size : at + n - at ≡ n = omega arith in
-    rw size (Represents-take known n (drop at ns) (drop at cs) (Represents-drop known at ns cs are))
 
 -- the cluster at a place, and that the number there spells it
 pub record IsSpelledAt (known : Texts) (n : ℤ) (clusters : List (List ℕ)) (i : ℕ) : Type 0 where

@@ -1,6 +1,7 @@
 -- What is printed, and what is over the limit.
-use Rattle.std.proofs.Common.{◌≡◌, ℕ, zero, suc, ◌+◌, ◌≤◌, true, nat_lt, List, [], ◌∷◌, ◌++◌, length, take, drop, slice_range, Err, ℤ, refl, sym, ap, ◌∙◌, length-append, arith}
+use Rattle.std.proofs.Common.{◌≡◌, ℕ, zero, suc, ◌≤◌, true, nat_lt, List, [], ◌∷◌, ◌++◌, length, take, drop, Err, ℤ, refl, sym, ap, ◌∙◌, length-append, arith}
 use Rattle.std.proofs.lemmas.Bool.{lt-ltb}
+use Rattle.std.proofs.lemmas.List.{take_at}
 use Rattle.std.specs.List.{flat_map}
 use Rattle.std.proofs.Math.Seq.{take-append_seam}
 use Rattle.nfg_syn.specs.OwnTexts.{known_of}
@@ -9,16 +10,18 @@ use Rattle.nfg_work.specs.declared.stop.Stop.{Stop}
 use Rattle.nfg_work.specs.Printing.{shown, shown_cluster, line_of}
 use Rattle.nfg_work.specs.Separated.{shown_with_space}
 use Rattle.nfg_work.specs.Holding.{Prints, IsRefusedAt}
-use Rattle.nfg_work.proofs.Joined.{join-closed, represents-range}
-use Rattle.nfg_work.proofs.Tables.{copied_part, length-take_le}
+use Rattle.nfg_syn.specs.RepresentsLaws.{Represents-take, Represents-drop}
+use Rattle.nfg_work.proofs.Joined.{join-closed}
+use Rattle.nfg_work.proofs.Tables.{length-take_le}
 
--- the part of a string in the buffer stands for that part of the clusters
-pub part_represents : (texts now : List (List ℕ)) (gs into numbers : List ℤ) (clusters : List (List ℕ)) (at count : ℕ) → now ≡ texts → count ≤ length numbers
-    → at + count ≤ length gs → into ≡ slice_range gs at (at + length (take count numbers)) → Represents (known_of texts) gs clusters
-    → Represents (known_of now) (take count (into ++ drop count numbers)) (take count (drop at clusters))
-part_represents texts now gs into numbers clusters at count same few inside into_is are =
-    let end_is : at + length (take count numbers) ≡ at + count = ap (λ n. at + n) (length-take_le count numbers few) in
-    rw (same, copied_part gs into numbers at count (at + length (take count numbers)) end_is inside into_is) (represents-range (known_of texts) gs clusters at count are)
+-- what is read of a string from a place on stands for that part of the clusters
+pub part_represents : (texts now : List (List ℕ)) (gs left numbers old : List ℤ) (clusters : List (List ℕ)) (at count : ℕ) → now ≡ texts → left ≡ drop at gs
+    → count ≤ length left → numbers ≡ take count left ++ drop count old → Represents (known_of texts) gs clusters
+    → Represents (known_of now) (take count numbers) (take count (drop at clusters))
+part_represents texts now gs left numbers old clusters at count same left_is few read are =
+    let part : take count numbers ≡ take count (drop at gs) =
+    ap (take count) read ∙ take_at (take count left) (drop count old) count (length-take_le count left few) ∙ ap (take count) left_is in
+    rw (same, part) (Represents-take (known_of texts) count (drop at gs) (drop at clusters) (Represents-drop (known_of texts) at gs clusters are))
 
 line_length : (clusters : List (List ℕ)) → length (flat_map shown_with_space clusters) ≤ length (line_of (shown clusters))
 line_length [] = omega arith

@@ -1,6 +1,5 @@
 -- What a table of one caller says of its numbers.
-use Rattle.std.proofs.Common.{◌≡◌, ℕ, zero, suc, ◌+◌, ◌-◌, ◌<◌, ◌≤◌, List, [], ◌∷◌, length, slice_get, slice_index_or, Some, IfSome, Option, ℤ, pos, negsuc, nat_abs, take, drop, slice_set, slice_range, ◌++◌, length-drop, refl, sym, ap, ◌∙◌, subst, arith}
-use Rattle.std.proofs.Math.Seq.{take-append_seam}
+use Rattle.std.proofs.Common.{◌≡◌, ℕ, zero, suc, ◌+◌, ◌<◌, ◌≤◌, List, [], ◌∷◌, length, slice_get, slice_index_or, Some, IfSome, Option, ℤ, pos, negsuc, nat_abs, take, slice_set, refl, sym, ap, ◌∙◌, subst, arith}
 use Rattle.nfg_syn.specs.Known.{Texts, IsSame, text_at}
 use Rattle.nfg_syn.specs.KnownLaws.{same_text}
 use Rattle.nfg_syn.specs.OwnTexts.{OwnTexts, IsOwnPass, known_of}
@@ -84,13 +83,3 @@ pub length-take_le : {X : Type 0} (n : ℕ) (xs : List X) → n ≤ length xs �
 length-take_le zero xs le = refl
 length-take_le (suc n) [] le = absurd (omega (arith, le))
 length-take_le (suc n) (x ∷ xs) le = ap (λ k. suc k) (length-take_le n xs (omega (arith, le)))
-
--- a part of a string that was copied to the front of a buffer
-pub copied_part : (gs into numbers : List ℤ) (at count end : ℕ) → end ≡ at + count → at + count ≤ length gs → into ≡ slice_range gs at end
-    → take count (into ++ drop count numbers) ≡ slice_range gs at (at + count)
-copied_part gs into numbers at count end end_is inside into_is =
-    let size : at + count - at ≡ count = omega arith in
-    let long : length into ≡ count =
-    ap length into_is ∙ ap (λ e. length (slice_range gs at e)) end_is ∙ ap (λ n. length (take n (drop at gs))) size
-    ∙ length-take_le count (drop at gs) (let left = length-drop at gs in omega (arith, left, inside)) in
-    ap (λ n. take n (into ++ drop count numbers)) (sym long) ∙ take-append_seam into (drop count numbers) ∙ into_is ∙ ap (λ e. slice_range gs at e) end_is

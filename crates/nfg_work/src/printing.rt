@@ -151,12 +151,12 @@ pub(crate) fn show(
 {
     let had = output.len();
     let len = string.len();
+    let mut left = string.iter();
     let mut numbers = [0i32; PART];
     let mut buffer = [0u32; CLUSTER_LIMIT];
     let mut at = 0u64;
     'showing: while at < len {
-        let count = (len - at).min(PART as u64) as usize;
-        string.copy_into(at, &mut numbers[..count]);
+        let count = left.read(&mut numbers);
         show_part(table, pass, &numbers[..count], &mut buffer, output)?;
         match within_limit(output, had) {
             Ok(()) => at += count as u64,

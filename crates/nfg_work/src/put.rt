@@ -93,12 +93,12 @@ fn gather(
         → Gathers e clusters 0 codes.old codes.new result }
 {
     let len = string.len();
+    let mut left = string.iter();
     let mut numbers = [0i32; PART];
     let mut buffer = [0u32; CLUSTER_LIMIT];
     let mut at = 0u64;
     'gathering: while at < len {
-        let count = (len - at).min(PART as u64) as usize;
-        string.copy_into(at, &mut numbers[..count]);
+        let count = left.read(&mut numbers);
         match gather_part(table, pass, &numbers[..count], at, e, &mut buffer, codes) {
             Ok(()) => at += count as u64,
             Err(stop) => return Err(stop),

@@ -1,4 +1,5 @@
-use Rattle.std.proofs.Common.{◌≤◌, ◌+◌, ◌++◌, length, ap, ◌∙◌, sym, arith, rules, take, drop}
+use Rattle.std.proofs.Common.{◌≤◌, ◌+◌, ◌++◌, length, ap, ◌∙◌, sym, arith, rules, take, drop, length-drop}
+use Rattle.std.proofs.lemmas.List.{drop-drop}
 use Rattle.std.specs.List.{flat_map}
 use Rattle.nfg_syn.specs.OwnTexts.{known_of}
 use Rattle.nfg_syn.specs.RepresentsLaws.{Represents-length}
@@ -9,19 +10,19 @@ use Rattle.nfg_work.proofs.printing.show.Goals as goal
 
 pub show_part-requires-clause-known : goal.show_part-requires-clause-known
 show_part-requires-clause-known c =
-    let count = c.min-count.result in (
+    let count = c.read-count.result in (
       take count (drop c.showing.at c.requires.known.0),
-      part_represents c.args.pass.now.texts c.showing.pass.texts c.args.string.now.graphemes c.copy_into.new.into c.showing.numbers c.requires.known.0 c.showing.at count
-          c.showing.invariant.texts (omega (arith, c.min-count.ensures, c.min-count.array_long)) (omega (arith, c.min-count.ensures, c.len-len.ensures.len, c.showing-test.true))
-          c.copy_into.ensures c.requires.known.1,
+      part_represents c.args.pass.now.texts c.showing.pass.texts c.args.string.now.graphemes c.showing.left c.read-count.new.into c.showing.numbers c.requires.known.0 c.showing.at count
+          c.showing.invariant.texts c.showing.invariant.left (omega (arith, c.read-count.ensures.count))
+          c.read-count.ensures.read c.requires.known.1,
     )
 
 pub returns-in-Err-clause-shown : goal.returns-in-Err-clause-shown
 returns-in-Err-clause-shown c = λ clusters are.
-    let count = c.min-count.result in
-    let represents = part_represents c.args.pass.now.texts c.showing.pass.texts c.args.string.now.graphemes c.copy_into.new.into c.showing.numbers clusters c.showing.at count
-    c.showing.invariant.texts (omega (arith, c.min-count.ensures, c.min-count.array_long)) (omega (arith, c.min-count.ensures, c.len-len.ensures.len, c.showing-test.true))
-    c.copy_into.ensures are in
+    let count = c.read-count.result in
+    let represents = part_represents c.args.pass.now.texts c.showing.pass.texts c.args.string.now.graphemes c.showing.left c.read-count.new.into c.showing.numbers clusters c.showing.at count
+    c.showing.invariant.texts c.showing.invariant.left (omega (arith, c.read-count.ensures.count))
+    c.read-count.ensures.read are in
     let out = mapped-more shown_with_space clusters c.showing.at count c.args.output.now c.showing.output c.show_part.new.output
     (c.showing.invariant.line clusters are) (c.in_ok-show_part.ensures.shown (take count (drop c.showing.at clusters)) represents) in
     shown_over c.args.output.now c.show_part.new.output c.within_limit.new.output c.len-had.result (c.showing.at + count) clusters c.in-Err.stop
@@ -29,17 +30,18 @@ returns-in-Err-clause-shown c = λ clusters are.
 
 pub showing-preserved : goal.showing-preserved
 showing-preserved c =
-    let count = c.min-count.result in
+    let count = c.read-count.result in
     record {
-      at = omega (arith, c.min-count.ensures, c.showing-test.true);
+      rest = omega (arith, c.showing.invariant.rest, c.read-count.ensures.count, ap length c.read-count.ensures.left, length-drop count c.showing.left);
+      left = c.read-count.ensures.left ∙ ap (drop count) c.showing.invariant.left ∙ drop-drop count c.showing.at c.args.string.now.graphemes;
       numbers = search rules;
       room = search rules;
       table = search rules;
       texts = search rules;
       line = λ clusters are.
-          let represents = part_represents c.args.pass.now.texts c.showing.pass.texts c.args.string.now.graphemes c.copy_into.new.into c.showing.numbers clusters c.showing.at count
-          c.showing.invariant.texts (omega (arith, c.min-count.ensures, c.min-count.array_long)) (omega (arith, c.min-count.ensures, c.len-len.ensures.len, c.showing-test.true))
-          c.copy_into.ensures are in
+          let represents = part_represents c.args.pass.now.texts c.showing.pass.texts c.args.string.now.graphemes c.showing.left c.read-count.new.into c.showing.numbers clusters c.showing.at count
+          c.showing.invariant.texts c.showing.invariant.left (omega (arith, c.read-count.ensures.count))
+          c.read-count.ensures.read are in
           c.in-Ok.ensures.ok.1 ∙ mapped-more shown_with_space clusters c.showing.at count c.args.output.now c.showing.output c.show_part.new.output
           (c.showing.invariant.line clusters are) (c.in_ok-show_part.ensures.shown (take count (drop c.showing.at clusters)) represents);
     }

@@ -1,4 +1,4 @@
-use Rattle.std.proofs.Common.{◌≡◌, ◌≤◌, ◌-◌, ℕ, List, ◌++◌, take, length}
+use Rattle.std.proofs.Common.{◌≡◌, ◌+◌, ◌-◌, ℕ, List, ◌++◌, take, drop, length}
 use Rattle.std.specs.List.{flat_map}
 use Rattle.nfg_syn.specs.OwnTexts.{IsOwnPass, known_of}
 use Rattle.nfg_syn.specs.Represents.{Represents}
@@ -7,7 +7,8 @@ use Rattle.nfg_work.proofs.printing.show.Given as goal
 
 abbrev pub invariant-showing : goal.invariant-showing
 invariant-showing l = record {
-  at : l.at ≤ l.len;
+  rest : l.at + length l.left ≡ l.len;
+  left : l.left ≡ drop l.at l.string.graphemes;
   numbers : length l.numbers ≡ 256;
   room : length l.buffer ≡ 1024;
   table : IsOwnPass l.table l.pass;

@@ -1,4 +1,5 @@
-use Rattle.std.proofs.Common.{◌≤◌, ◌++◌, length, ap, ◌∙◌, sym, arith, rules, take, drop}
+use Rattle.std.proofs.Common.{◌≤◌, ◌++◌, length, ap, ◌∙◌, sym, arith, rules, take, drop, length-drop}
+use Rattle.std.proofs.lemmas.List.{drop-drop}
 use Rattle.nfg_text.specs.Text.{text_of}
 use Rattle.nfg_syn.specs.OwnTexts.{known_of}
 use Rattle.nfg_syn.specs.RepresentsLaws.{Represents-length}
@@ -10,43 +11,44 @@ use Rattle.nfg_work.proofs.put.gather.Goals as goal
 
 pub gather_part-requires-clause-known : goal.gather_part-requires-clause-known
 gather_part-requires-clause-known c =
-    let count = c.min-count.result in (
+    let count = c.read-count.result in (
       take count (drop c.gathering.at c.requires.known.0),
-      part_represents c.args.pass.now.texts c.gathering.pass.texts c.args.string.now.graphemes c.copy_into.new.into c.gathering.numbers c.requires.known.0 c.gathering.at count
-          c.gathering.invariant.texts (omega (arith, c.min-count.ensures, c.min-count.array_long)) (omega (arith, c.min-count.ensures, c.len-len.ensures.len, c.gathering-test.true))
-          c.copy_into.ensures c.requires.known.1,
+      part_represents c.args.pass.now.texts c.gathering.pass.texts c.args.string.now.graphemes c.gathering.left c.read-count.new.into c.gathering.numbers c.requires.known.0 c.gathering.at count
+          c.gathering.invariant.texts c.gathering.invariant.left (omega (arith, c.read-count.ensures.count))
+          c.read-count.ensures.read c.requires.known.1,
     )
 
 pub returns-in-Err-clause-gathered : goal.returns-in-Err-clause-gathered
 returns-in-Err-clause-gathered c = λ clusters are.
-    let count = c.min-count.result in
-    let represents = part_represents c.args.pass.now.texts c.gathering.pass.texts c.args.string.now.graphemes c.copy_into.new.into c.gathering.numbers clusters c.gathering.at count
-    c.gathering.invariant.texts (omega (arith, c.min-count.ensures, c.min-count.array_long)) (omega (arith, c.min-count.ensures, c.len-len.ensures.len, c.gathering-test.true))
-    c.copy_into.ensures are in
+    let count = c.read-count.result in
+    let represents = part_represents c.args.pass.now.texts c.gathering.pass.texts c.args.string.now.graphemes c.gathering.left c.read-count.new.into c.gathering.numbers clusters c.gathering.at count
+    c.gathering.invariant.texts c.gathering.invariant.left (omega (arith, c.read-count.ensures.count))
+    c.read-count.ensures.read are in
     let inside : c.gathering.at ≤ length clusters = omega (arith, c.gathering-test.true, c.len-len.ensures.len, Represents-length (known_of c.args.pass.now.texts) c.args.string.now.graphemes clusters are) in
     gathered-refused c.args.e clusters c.gathering.at count c.gathering.codes c.gather_part.new.codes c.args.codes.now c.in-Err.stop (c.gathering.invariant.had clusters are) inside
     (c.in-Err.ensures.gathered (take count (drop c.gathering.at clusters)) represents)
 
 pub gathering-preserved : goal.gathering-preserved
 gathering-preserved c =
-    let count = c.min-count.result in
+    let count = c.read-count.result in
     record {
-      at = omega (arith, c.min-count.ensures, c.gathering-test.true);
+      rest = omega (arith, c.gathering.invariant.rest, c.read-count.ensures.count, ap length c.read-count.ensures.left, length-drop count c.gathering.left);
+      left = c.read-count.ensures.left ∙ ap (drop count) c.gathering.invariant.left ∙ drop-drop count c.gathering.at c.args.string.now.graphemes;
       numbers = search rules;
       room = search rules;
       table = search rules;
       texts = search rules;
       had = λ clusters are.
-          let represents = part_represents c.args.pass.now.texts c.gathering.pass.texts c.args.string.now.graphemes c.copy_into.new.into c.gathering.numbers clusters c.gathering.at count
-          c.gathering.invariant.texts (omega (arith, c.min-count.ensures, c.min-count.array_long)) (omega (arith, c.min-count.ensures, c.len-len.ensures.len, c.gathering-test.true))
-          c.copy_into.ensures are in
+          let represents = part_represents c.args.pass.now.texts c.gathering.pass.texts c.args.string.now.graphemes c.gathering.left c.read-count.new.into c.gathering.numbers clusters c.gathering.at count
+          c.gathering.invariant.texts c.gathering.invariant.left (omega (arith, c.read-count.ensures.count))
+          c.read-count.ensures.read are in
           let inside : c.gathering.at ≤ length clusters = omega (arith, c.gathering-test.true, c.len-len.ensures.len, Represents-length (known_of c.args.pass.now.texts) c.args.string.now.graphemes clusters are) in
           none-more c.args.e clusters c.gathering.at count (c.gathering.invariant.had clusters are) inside
           (c.in-Ok.ensures.gathered (take count (drop c.gathering.at clusters)) represents).0;
       codes = λ clusters are.
-          let represents = part_represents c.args.pass.now.texts c.gathering.pass.texts c.args.string.now.graphemes c.copy_into.new.into c.gathering.numbers clusters c.gathering.at count
-          c.gathering.invariant.texts (omega (arith, c.min-count.ensures, c.min-count.array_long)) (omega (arith, c.min-count.ensures, c.len-len.ensures.len, c.gathering-test.true))
-          c.copy_into.ensures are in
+          let represents = part_represents c.args.pass.now.texts c.gathering.pass.texts c.args.string.now.graphemes c.gathering.left c.read-count.new.into c.gathering.numbers clusters c.gathering.at count
+          c.gathering.invariant.texts c.gathering.invariant.left (omega (arith, c.read-count.ensures.count))
+          c.read-count.ensures.read are in
           gathered-more clusters c.gathering.at count c.args.codes.now c.gathering.codes c.gather_part.new.codes (c.gathering.invariant.codes clusters are)
           (c.in-Ok.ensures.gathered (take count (drop c.gathering.at clusters)) represents).1;
     }
