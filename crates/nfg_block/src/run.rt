@@ -1,7 +1,6 @@
 //! A range of a block, read from the front.
 
 ghost use Rattle.std.specs.Prelude.{◌≡◌, ◌++◌, [], drop, length, min, take};
-ghost use Rattle.std.specs.Iterator.{YieldsFirst, item_count};
 
 use nfg_lanes::widen;
 use std::marker::Model;
@@ -75,36 +74,6 @@ impl<'a> Run<'a> {
                 into[..count].copy_from_slice(&cells[..count]);
                 *left = &cells[count..];
                 count
-            }
-        }
-    }
-}
-
-impl<'a> Iterator for Run<'a> {
-    type Item = i32;
-
-    ghost next_gives = { YieldsFirst (λ g. g) };
-
-    ghost remaining = { item_count (λ g. g) };
-
-    #[inline(always)]
-    fn next(&mut self) -> Option<i32> {
-        match &mut self.cells {
-            RunCells::Narrow(left) => {
-                let cells = *left;
-                if cells.is_empty() {
-                    return None;
-                }
-                *left = &cells[1..];
-                Some(cells[0] as i32)
-            }
-            RunCells::Wide(left) => {
-                let cells = *left;
-                if cells.is_empty() {
-                    return None;
-                }
-                *left = &cells[1..];
-                Some(cells[0])
             }
         }
     }

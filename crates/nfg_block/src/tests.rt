@@ -101,7 +101,7 @@ fn a_run_is_read_by_slices(rt: HostRuntime) {
             assert_eq!(rt; part, [graphemes[0], graphemes[1]]);
             assert_eq!(rt; run.read(&mut part), 1);
             assert_eq!(rt; part, [graphemes[2], graphemes[1]]);
-            assert_eq!(rt; run.next(), None);
+            assert_eq!(rt; run.read(&mut part), 0);
         }
     }
 }
