@@ -6,6 +6,7 @@ pub mod OneCluster
 pub mod PlainLines
 pub mod PlainSteps
 pub mod Reaching
+pub mod Rows
 pub mod SafeRuns
 pub mod Stable
 pub mod Steps

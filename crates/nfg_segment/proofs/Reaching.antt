@@ -150,9 +150,9 @@ give-long g t long = ap (with_head g (take 1024 t)) (sym (lt-ltb 1024 (length t)
 reverse-one : (k : List ℕ) (x : ℕ) → reverse (k ++ x ∷ []) ≡ x ∷ reverse k
 reverse-one k x = reverse-append k (x ∷ [])
 
-pub reaches-ended : (h : Unfinished) (t : List ℕ) (at n : ℕ) (m : Memory) (k : List ℕ) → Keeps h [] → at < length t → ends_before k (get_or t at 0) ≡ true
-    → Remembers m (get_or t at 0 ∷ []) → Reaches h t (at + 1) record { start = at; memory = m; singles = n } (next k (get_or t at 0))
-reaches-ended h t at n m k keeps within ends remembers =
+pub reaches-ended : (h : Unfinished) (t : List ℕ) (at : ℕ) (m : Memory) (k : List ℕ) → Keeps h [] → at < length t → ends_before k (get_or t at 0) ≡ true
+    → Remembers m (get_or t at 0 ∷ []) → Reaches h t (at + 1) record { start = at; memory = m } (next k (get_or t at 0))
+reaches-ended h t at m k keeps within ends remembers =
     let x = get_or t at 0 in
     let one : next k x ≡ x ∷ [] = ap (λ l. l ++ x ∷ []) (left_open-ends k x ends) in
     record {
@@ -163,7 +163,7 @@ reaches-ended h t at n m k keeps within ends remembers =
     }
 
 pub reaches-on : (h : Unfinished) (t : List ℕ) (at : ℕ) (r : Reach) (m : Memory) (k : List ℕ) → Reaches h t at r k → r.start ≤ at → at < length t → ends_before k (get_or t at 0) ≡ false
-    → Remembers m (get_or t at 0 ∷ reverse k) → Reaches h t (at + 1) record { start = r.start; memory = m; singles = r.singles } (next k (get_or t at 0))
+    → Remembers m (get_or t at 0 ∷ reverse k) → Reaches h t (at + 1) record { start = r.start; memory = m } (next k (get_or t at 0))
 reaches-on h t at r m k reaches low within stays remembers =
     let x = get_or t at 0 in
     let more : next k x ≡ k ++ x ∷ [] = ap (λ l. l ++ x ∷ []) (left_open-stays k x stays) in

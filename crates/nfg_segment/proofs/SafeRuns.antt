@@ -66,11 +66,11 @@ none-more t n within none one = ap none_safe (take_more t n 0 within) ∙ push (
 
 -- ---- the open cluster after two texts
 
-next_all-append : (k xs ys : List ℕ) → next_all k (xs ++ ys) ≡ next_all (next_all k xs) ys
+pub next_all-append : (k xs ys : List ℕ) → next_all k (xs ++ ys) ≡ next_all (next_all k xs) ys
 next_all-append k [] ys = refl
 next_all-append k (x ∷ xs) ys = next_all-append (next k x) xs ys
 
-closed_all-append : (k xs ys : List ℕ) → closed_all k (xs ++ ys) ≡ closed_all k xs ++ closed_all (next_all k xs) ys
+pub closed_all-append : (k xs ys : List ℕ) → closed_all k (xs ++ ys) ≡ closed_all k xs ++ closed_all (next_all k xs) ys
 closed_all-append k [] ys = refl
 closed_all-append k (x ∷ xs) ys =
     ap (λ l. closed k x ++ l) (closed_all-append (next k x) xs ys)

@@ -1,36 +1,33 @@
 //! Code points that start safely, one after another.
-ghost use Rattle.std.specs.Prelude.{◌≡◌, ◌<◌, ◌≤◌, ◌+◌, ℕ, true, List, [], ◌∷◌, take, length, IsTrue, IfOk};
+ghost use Rattle.std.specs.Prelude.{◌≡◌, ◌<◌, ◌≤◌, ◌+◌, ℕ, true, List, [], ◌∷◌, take, drop, length, IsTrue, IfOk, OnOk};
 ghost use Rattle.std.specs.Char.{IsScalar};
-ghost use Rattle.std.specs.List.{slice_index_or};
-ghost use Rattle.nfg_text.specs.Breaks.{IsKindOf};
+ghost use Rattle.std.specs.List.{slice_index_or, slice_range};
+ghost use Rattle.nfg_text.specs.Breaks.{IsKindOf, Remembers};
 ghost use Rattle.nfg_text.specs.Grapheme.{is_grapheme_break};
 ghost use Rattle.nfg_text.specs.Graphemes.{starts_safely};
+ghost use Rattle.nfg_text.specs.Plain.{singles};
 ghost use Rattle.nfg_text.specs.Text.{IsText};
 ghost use Rattle.nfg_segment.specs.Given.{Grew, with_clusters};
 ghost use Rattle.nfg_segment.specs.Held.{Keeps, is_some, ends_before, closed, next, next_all, closed_all, all_safe};
+ghost use Rattle.nfg_segment.specs.PlainLines.{ArePlainLines};
 ghost use Rattle.nfg_segment.specs.Reach.{Reaches};
 
 use crate::ClusterSink;
-use crate::draft::to_char;
 use crate::open_cluster::OpenCluster;
+use crate::plain::plain_lines_len;
 use nfg_text::{Kind, Memory};
 use std::alloc::AllocError;
 
-/// How many clusters of one code point in a row are found one by one before plain ones are left.
-const ROW: u32 = 3;
-
 /// How the open cluster reaches into a text: from `start` on it is still there. And what the rules
-/// read of all of it, and how many clusters of one code point stand before it in a row.
+/// read of all of it.
 #[derive(Clone, Copy)]
 pub(crate) struct Reach {
     start: usize,
     memory: Memory,
-    singles: u32,
 }
 
 /// Goes on with code points that start safely, each followed by another, and says where the last one
-/// is, with which it does not go on. Plain ones in a row, or behind a line feed, are left to be taken
-/// as a whole.
+/// is, with which it does not go on. Plain ones in a row are given out as a whole.
 pub(crate) fn push_safe<S: ClusterSink>(
     open_cluster: &mut OpenCluster,
     text: &[u32],
@@ -51,7 +48,6 @@ pub(crate) fn push_safe<S: ClusterSink>(
     let mut reach = Reach {
         start: 0,
         memory: open_cluster.memory(),
-        singles: 0,
     };
     let mut at = 0;
     while at + 1 < text.len() {
@@ -59,12 +55,16 @@ pub(crate) fn push_safe<S: ClusterSink>(
         if !next_kind.starts_safely() {
             break;
         }
-        if is_plain_row(reach, text[at], next_kind) {
-            break;
+        let count = row_len(open_cluster, text, at, reach, kind, next_kind);
+        if count > 0 {
+            reach = give_row(text, reach.start, count, out)?;
+            at = reach.start + 1;
+            kind = kind_of(text[at]);
+        } else {
+            reach = go_on(open_cluster, text, at, reach, kind, out)?;
+            kind = next_kind;
+            at += 1;
         }
-        reach = go_on(open_cluster, text, at, reach, kind, out)?;
-        kind = next_kind;
-        at += 1;
     }
     open_cluster.join_all(&text[reach.start..at], reach.memory)?;
     Ok(at)
@@ -96,13 +96,11 @@ fn go_on<S: ClusterSink>(
         return Ok(Reach {
             start: at,
             memory: Memory::new().then(kind),
-            singles: singles_with(reach, at),
         });
     }
     Ok(Reach {
         start: reach.start,
         memory: reach.memory.then(kind),
-        singles: reach.singles,
     })
 }
 
@@ -160,21 +158,60 @@ pub(crate) fn are_parted(first: char, next: char) -> bool
     memory.breaks_before(kind_of(next as u32))
 }
 
-/// How many clusters of one code point there are in a row, with the one that ends there.
+/// How many code points of plain lines there are from the open cluster on, but for the last two. It is 0
+/// where the cluster is not one code point of the text, or the next two code points are not plain.
 #[inline(always)]
-fn singles_with(reach: Reach, end: usize) -> u32
-    requires { reach.start ≤ end }
+fn row_len(
+    open_cluster: &OpenCluster,
+    text: &[u32],
+    at: usize,
+    reach: Reach,
+    kind: Kind,
+    next_kind: Kind,
+) -> usize
+    requires within { at < length text.now }
+    requires start { reach.start ≤ at }
+    ensures single { 0 < result → reach.start + 1 ≡ at }
+    ensures none { 0 < result → length open_cluster.now.now.head ≡ 0 }
+    ensures within { 0 < result → reach.start + result + 1 < length text.now }
+    ensures plain { 0 < result → ArePlainLines (take (result + 2) (drop reach.start text.now)) }
 {
-    if end - reach.start == 1 {
-        reach.singles.saturating_add(1)
-    } else {
-        0
+    if !(kind.is_plain() & next_kind.is_plain()) {
+        return 0;
     }
+    if at - reach.start != 1 {
+        return 0;
+    }
+    if open_cluster.is_some() {
+        return 0;
+    }
+    let len = plain_lines_len(&text[reach.start..]);
+    if len <= 2 {
+        return 0;
+    }
+    len - 2
 }
 
-/// Whether a row of clusters of one code point, or what comes behind a line feed, goes on with a plain
-/// code point.
+/// Gives out that many code points as clusters of one, behind which the next one is the open cluster.
 #[inline(always)]
-fn is_plain_row(reach: Reach, last: u32, next: Kind) -> bool {
-    (reach.singles >= ROW) | (last == 0xA) && next.is_plain()
+fn give_row<S: ClusterSink>(
+    text: &[u32],
+    start: usize,
+    count: usize,
+    out: &mut S,
+) -> Result<Reach, AllocError>
+    requires text { IsText text.now }
+    requires within { start + count < length text.now }
+    ensures given { OnOk result (S.given out.new
+        ≡ with_clusters (S.given out.old) (singles (slice_range text.now start (start + count)))) }
+    ensures start { IfOk result (λ r. r.start ≡ start + count) }
+    ensures memory { IfOk result (λ r. Remembers r.memory (slice_index_or text.now (start + count) 0 ∷ [])) }
+    ensures grew { Grew (S.given out.old) (S.given out.new) }
+{
+    let end = start + count;
+    out.push_run(&text[start..end])?;
+    Ok(Reach {
+        start: end,
+        memory: Memory::new().then(kind_of(text[end])),
+    })
 }

@@ -19,7 +19,7 @@ returns-then-ends_before-clause-given g c cluster reaches =
     let x = get_or text at 0 in
     let ends = sym (c.ends_before.ensures.ends cluster reaches) ∙ c.if-ends_before.true in
     let closed = c.in_ok-close_with.ensures.given reaches.before reaches.keeps (subst (λ l. Remembers c.args.reach.memory (reverse l)) reaches.whole reaches.memory) in (
-      reaches-ended c.close_with.new.self.now text at c.singles_with.result c.then.result cluster closed.0 c.requires.within ends (c.then.ensures [] x c.new.ensures c.requires.kind),
+      reaches-ended c.close_with.new.self.now text at c.then.result cluster closed.0 c.requires.within ends (c.then.ensures [] x c.new.ensures c.requires.kind),
       closed.1 ∙ ap (with_cluster (g.S.ClusterSink.given c.args.out.now)) (sym reaches.whole) ∙ ap (with_clusters (g.S.ClusterSink.given c.args.out.now)) (sym (closed-ends cluster x ends)),
     )
 
