@@ -14,7 +14,7 @@ pub use Rattle.nfg_text.proofs.Parts.{graphemes_are_in_nfg, clusters_of_parts, p
 pub use Rattle.nfg_text.proofs.PlainFacts.{plain_stands_apart, line_feed_is_not_plain}
 pub use Rattle.nfg_text.proofs.PlainRuns.{plain_pairs_break, plain_breaks_before_line_feed, graphemes_at_plain, plain_runs_are_singles}
 pub use Rattle.nfg_text.proofs.PlainTable.{printable_ascii_is_plain, latin_are_plain, punctuation_are_plain, radicals_are_plain, hiragana_are_plain, katakana_are_plain, ideographs_are_plain, syllables_are_plain, full_width_are_plain}
-pub use Rattle.nfg_text.proofs.SafeStart.{nfc_at_safe_start, safe_starts_stay, clusters_at_safe_start, graphemes_at_safe_start, safe_starts_decide}
+pub use Rattle.nfg_text.proofs.SafeStart.{nfc_at_safe_start, safe_starts_stay, clusters_at_safe_start, graphemes_at_safe_start, safe_starts_decide, broken_where_parted}
 pub use Rattle.nfg_text.proofs.ScalarFacts.{nfc_of_text, parts_of_text}
 pub use Rattle.nfg_text.proofs.StableLen.{stable_len_is_greatest, graphemes_at_stable_len}
 pub use Rattle.nfg_text.proofs.StarterFacts.{starters_start_with_starters, composites_start_with_starters}

@@ -24,10 +24,10 @@ use Rattle.unicode_normalization.proofs.TableFacts.{is_final}
 use Rattle.unicode_segmentation.specs.Grapheme.{break_by_pair, ends_in_linker, ends_in_pictograph, ends_in_half_flag, joins_conjunct, joins_emoji, joins_flag, is_consonant, is_zwj, is_regional, is_grapheme_break}
 use Rattle.nfg_text.specs.Facts.{BeginsWith}
 use Rattle.nfg_text.specs.Graphemes.{is_yes, clusters, starts_safely}
-use Rattle.nfg_text.specs.Laws.{NfcAtSafeStart, SafeStartsStay, ClustersAtSafeStart, GraphemesAtSafeStart, SafeStartsDecide, IsAtBreak}
+use Rattle.nfg_text.specs.Laws.{NfcAtSafeStart, SafeStartsStay, ClustersAtSafeStart, GraphemesAtSafeStart, SafeStartsDecide, BrokenWhereParted, IsAtBreak}
 use Rattle.nfg_text.specs.Text.{text_of}
 use Rattle.nfg_text.proofs.Alike.{Alike, leading, alike-refl, alike-sym, alike-trans, alike_leading, rule-alike}
-use Rattle.nfg_text.proofs.AtBreak.{clusters_where_broken, onto-one, break_from_end}
+use Rattle.nfg_text.proofs.AtBreak.{clusters_where_broken, onto-one, break_from_end, reads_one_ahead}
 use Rattle.nfg_text.proofs.Closure.{first_part}
 use Rattle.nfg_text.proofs.Composing.{nfc-from}
 use Rattle.nfg_text.proofs.Equivalence.{clusters_spell_text}
@@ -297,6 +297,9 @@ break_from_parts (x ∷ xs) q rest e =
       | inl none ↦ absurd (omega arith)
       | inr listed ↦ ap (λ l. is_grapheme_break true l (q ∷ rest)) (sym (onto-one x xs)) ∙ break_from_end x xs (q ∷ rest) listed
     ]
+
+pub broken_where_parted : BrokenWhereParted
+broken_where_parted x c y parted = reads_one_ahead (reverse x) c [] y ∙ break_from_parts x c y parted
 
 pub safe_starts_decide : SafeStartsDecide
 safe_starts_decide x c y safe other parted =

@@ -24,6 +24,15 @@ ClustersWhereBroken =
     (x : List ℕ) (c : ℕ) (y : List ℕ) → is_grapheme_break true (reverse x) (c ∷ y) ≡ true
     → clusters (x ++ c ∷ y) ≡ clusters x ++ clusters (c ∷ y)
 
+-- the rules put a boundary between the text and a next code point
+abbrev pub BreaksBefore : List ℕ → ℕ → Type 0
+BreaksBefore t c = is_grapheme_break true (reverse t) (c ∷ []) ≡ true
+
+-- and they do so wherever the clusters of a text are those of two parts
+abbrev pub BrokenWhereParted : Type 0
+BrokenWhereParted =
+    (x : List ℕ) (c : ℕ) (y : List ℕ) → clusters (x ++ c ∷ y) ≡ clusters x ++ clusters (c ∷ y) → BreaksBefore x c
+
 -- where a cluster of a text in NFC ends, both parts are in NFC
 abbrev pub NfcAtBreak : Type 0
 NfcAtBreak = (x y : List ℕ) → IsAtBreak x y → nfc (x ++ y) ≡ x ++ y → (nfc x ≡ x) × (nfc y ≡ y)
@@ -89,10 +98,6 @@ NfcAtSafeStart =
 -- such a code point is its own NFC
 abbrev pub SafeStartsStay : Type 0
 SafeStartsStay = (c : ℕ) → starts_safely c ≡ true → nfc (c ∷ []) ≡ c ∷ []
-
--- the rules put a boundary between the text and a next code point
-abbrev pub BreaksBefore : List ℕ → ℕ → Type 0
-BreaksBefore t c = is_grapheme_break true (reverse t) (c ∷ []) ≡ true
 
 -- What follows may compose with a safe start. Still, a cluster ends before it where one would before it alone.
 abbrev pub ClustersAtSafeStart : Type 0

@@ -1,5 +1,5 @@
 -- Plain operations on lists of graphemes, where each grapheme is the list of its code points (this project's own).
-use Rattle.std.specs.Prelude.{◌≡◌, ℕ, zero, suc, ◌+◌, ◌-◌, ◌≤◌, Bool, ◌&&◌, nat_le, List, ◌++◌, length, take, drop, bytes_eq, Option, Some, None, if◌then◌else◌}
+use Rattle.std.specs.Prelude.{ℕ, zero, suc, ◌+◌, ◌-◌, Bool, ◌&&◌, nat_le, List, ◌++◌, length, take, drop, bytes_eq, Option, Some, None, if◌then◌else◌}
 use Rattle.std.specs.List.{repeat}
 use Rattle.std.specs.Cmp.Lexicographic.{pointwise, slice_cmp}
 use Rattle.std.specs.Ordering.{nat_cmp}
@@ -20,11 +20,6 @@ abbrev pub part_of : List (List ℕ) → ℕ → ℕ → List (List ℕ)
 part_of list start count = take count (drop start list)
 
 -- the graphemes of `part` stand in the list from the place on; the empty list stands at each place up to the length
-pub record OccursAt (list part : List (List ℕ)) (place : ℕ) : Type 0 where
-  pub within : place + length part ≤ length list
-  pub agrees : take (length part) (drop place list) ≡ part
-
--- the same as a test
 abbrev pub occurs_at : List (List ℕ) → List (List ℕ) → ℕ → Bool
 occurs_at list part place =
     nat_le (place + length part) (length list) && pointwise bytes_eq (take (length part) (drop place list)) part
