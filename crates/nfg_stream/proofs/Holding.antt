@@ -11,7 +11,7 @@ use Rattle.std.proofs.lemmas.Bool.Decides.{nat_tests}
 use Rattle.std.specs.List.{position_from, slice_index_or}
 use Rattle.nfg_text.specs.Graphemes.{is_too_long}
 use Rattle.nfg_segment.specs.Given.{Given, nothing, first_or, with_cluster, with_clusters}
-use Rattle.nfg_stream.specs.Load.{first_long}
+use Rattle.nfg_syn.specs.Learned.{first_long}
 use Rattle.nfg_stream.specs.Numbering.{IsCluster, AreClusters, Holds, HoldsSome}
 
 -- the first long cluster, counted from i

@@ -4,12 +4,13 @@ use Rattle.std.proofs.lemmas.List.{get_or-set_same, get_or-set_other}
 use mathlib.Core.Logic.{dite}
 use native.Mathlib.Decide.{ℕ_discrete}
 use Rattle.nfg_syn.specs.Known.{Texts, IsWithin}
+use Rattle.nfg_syn.specs.KnownLaws.{IsWithin-refl}
 use Rattle.nfg_syn.specs.Represents.{spelling}
 use Rattle.nfg_syn.specs.RepresentsLaws.{spelling-grows, spelling-one}
 use Rattle.nfg_syn.specs.Seen.{Seen}
-use Rattle.nfg_stream.specs.Load.{HasLearned, several, is_several}
+use Rattle.nfg_syn.specs.Learned.{HasLearned, several, is_several}
 use Rattle.nfg_stream.specs.Numbering.{AreInterned, HasNumber}
-use Rattle.nfg_stream.proofs.Learned.{IsSame-refl}
+use Rattle.nfg_syn.specs.LearnedLaws.{IsSame-refl}
 
 -- a pass that knows more
 pub Interned-grows : (longer : List (List ℕ)) (old new : Texts) (interned : List ℤ) → IsWithin old new → AreInterned longer old interned → AreInterned longer new interned
@@ -40,7 +41,7 @@ learned-again known (pos c) cluster e =
 learned-again known (negsuc m) cluster e = by (is_several cluster)
   where
     by : (b : Bool) → HasLearned known (if b then cluster ∷ [] else []) known
-    by true = (negsuc m, known, (e, λ k differ. refl), IsSame-refl known)
+    by true = (negsuc m, known, (e, λ k differ. refl), IsWithin-refl known, IsSame-refl known)
     by false = IsSame-refl known
 
 pub known-number : (seen : Seen) (n : ℤ) (cluster : List ℕ) → spelling seen.known n ≡ Some cluster → HasNumber cluster seen seen (Ok n)

@@ -1,5 +1,4 @@
 mod Examples
-pub mod Learned
 pub mod Holding
 pub mod Numbered
 pub mod Interned

@@ -10,13 +10,14 @@ use Rattle.nfg_syn.specs.Represents.{Represents, spelling}
 use Rattle.nfg_syn.specs.RepresentsLaws.{spelling-scalar}
 use Rattle.nfg_syn.specs.Seen.{Seen}
 use Rattle.nfg_stream.specs.Collected.{kept_as, AreCounted}
-use Rattle.nfg_stream.specs.Load.{HasLearned, HasMade, several, first_long}
+use Rattle.nfg_syn.specs.Learned.{HasLearned, several, first_long}
+use Rattle.nfg_stream.specs.Load.{HasMade}
 use Rattle.nfg_stream.specs.Numbering.{IsCluster, AreClusters, AreNumbered, HasNumber}
 use Rattle.nfg_stream.specs.Numbers.{ArePlain, with_number}
 use Rattle.nfg_stream.specs.declared.error.LoadError.{LoadError}
 use Rattle.nfg_stream.proofs.Holding.{long_from, first_long-from, none_long}
 use Rattle.nfg_stream.proofs.Interned.{learned-again}
-use Rattle.nfg_stream.proofs.Learned.{HasLearned-several, IsSame-refl}
+use Rattle.nfg_syn.specs.LearnedLaws.{HasLearned-several, IsSame-refl}
 use Rattle.nfg_stream.proofs.NumbersLemmas.{never-narrow}
 use Rattle.nfg_stream.proofs.Numbered.{Numbered-clear, made-refused}
 

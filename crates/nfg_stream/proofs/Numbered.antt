@@ -11,10 +11,11 @@ use Rattle.nfg_syn.specs.RepresentsLaws.{Represents-grows, Represents-push, spel
 use Rattle.nfg_syn.specs.Seen.{Seen}
 use Rattle.nfg_stream.specs.declared.error.LoadError.{LoadError}
 use Rattle.nfg_stream.specs.declared.error.LoadError.TheVariants.{Malformed, ClusterLong, RowFull, NoPortion, OutOfMemory}
-use Rattle.nfg_stream.specs.Load.{HasLearned, several, first_long, StopsAt, StopsSomewhere, HasMade}
+use Rattle.nfg_syn.specs.Learned.{HasLearned, several, first_long, StopsAt, StopsSomewhere}
+use Rattle.nfg_stream.specs.Load.{HasMade}
 use Rattle.nfg_stream.specs.Numbering.{AreNumbered, AreClusters, HasNumber, IsCluster, IsRefused}
 use Rattle.nfg_stream.specs.Numbers.{ArePlain}
-use Rattle.nfg_stream.proofs.Learned.{HasLearned-same, HasLearned-several, IsSame-refl}
+use Rattle.nfg_syn.specs.LearnedLaws.{HasLearned-same, HasLearned-several, IsSame-refl}
 
 pub Numbered-none : (known : Texts) (numbers : List ℤ) → numbers ≡ [] → AreNumbered [] known known numbers
 Numbered-none known numbers none = record {

@@ -8,7 +8,7 @@ use Rattle.nfg_syn.specs.RepresentsLaws.{Represents-append}
 use Rattle.nfg_stream.specs.Collected.{kept_as}
 use Rattle.nfg_stream.specs.Numbering.{AreClusters, AreNumbered}
 use Rattle.nfg_stream.specs.Numbers.{ArePlain}
-use Rattle.nfg_stream.proofs.Learned.{HasLearned-several}
+use Rattle.nfg_syn.specs.LearnedLaws.{HasLearned-several}
 use Rattle.nfg_stream.proofs.Numbered.{Numbered-clear}
 
 clusters-drop : (k : ℕ) (cs : List (List ℕ)) → AreClusters cs → AreClusters (drop k cs)

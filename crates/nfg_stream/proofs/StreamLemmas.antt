@@ -19,7 +19,7 @@ use Rattle.nfg_stream.specs.Load.{HasLoaded, HasMade}
 use Rattle.nfg_stream.specs.Numbering.{Holds, HoldsSome}
 use Rattle.nfg_stream.specs.Reading.{IsReading, IsEarlyRefusal, HasTaken, HasEnded, IsOpen, HasReadSome, IsOpenFor}
 use Rattle.nfg_stream.specs.Stream.{HasRead, IsEarly, error_of}
-use Rattle.nfg_stream.proofs.Learned.{IsSame-refl}
+use Rattle.nfg_syn.specs.LearnedLaws.{IsSame-refl}
 use Rattle.nfg_stream.proofs.ReadingLemmas.{early-more}
 
 -- ---- what a stream has read

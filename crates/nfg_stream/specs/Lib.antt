@@ -1,3 +1,4 @@
+pub use Rattle.nfg_syn.specs.Learned
 pub mod Collected
 pub mod Load
 pub mod Numbering

@@ -6,7 +6,7 @@ use Rattle.nfg_segment.specs.Given.{Given}
 use Rattle.nfg_syn.specs.Known.{Texts, IsSame, IsUnknown}
 use Rattle.nfg_syn.specs.Represents.{Represents, spelling}
 use Rattle.nfg_syn.specs.Seen.{Seen}
-use Rattle.nfg_stream.specs.Load.{HasLearned, several, first_long}
+use Rattle.nfg_syn.specs.Learned.{HasLearned, several, first_long}
 use Rattle.nfg_stream.specs.declared.error.LoadError.{LoadError}
 use Rattle.nfg_stream.specs.declared.error.LoadError.TheVariants.{Malformed, ClusterLong, RowFull, NoPortion, OutOfMemory}
 

@@ -1,6 +1,9 @@
--- Worked rows: what a table knows that has interned q with a diaeresis, and what lists of numbers stand for.
-use Rattle.std.proofs.Common.{◌≡◌, ◌≢◌, ℕ, zero, suc, List, [], ◌∷◌, Some, None, pos, negsuc, refl, arith}
+-- Worked rows: what a table knows that has interned q with a diaeresis, what lists of numbers stand for, and what is learned.
+use Rattle.std.proofs.Common.{◌≡◌, ◌≢◌, ℕ, zero, suc, List, [], ◌∷◌, Some, None, pos, negsuc, refl, ap, slice_index, arith}
 use Rattle.nfg_syn.specs.Known.{IsInternable, IsRowSize, MapsBesides, Texts, crlf, only_crlf, or_else, text_at}
+use Rattle.nfg_syn.specs.KnownLaws.{same_text}
+use Rattle.nfg_syn.specs.Learned.{HasLearned, several, first_long}
+use Rattle.nfg_syn.specs.LearnedLaws.{HasLearned-known}
 use Rattle.nfg_syn.specs.OwnTexts.{known_of, places_of}
 use Rattle.nfg_syn.specs.Represents.{Represents, spelling}
 
@@ -62,3 +65,38 @@ union_keeps_the_first = refl
 
 union_takes_the_second : or_else (only_crlf 1) (known 1) ≡ Some q_diaeresis
 union_takes_the_second = refl
+
+-- the clusters that need a number
+two_of_three : several ((0xE9 ∷ []) ∷ (0xD ∷ 0xA ∷ []) ∷ (0x71 ∷ 0x323 ∷ []) ∷ []) ≡ (0xD ∷ 0xA ∷ []) ∷ (0x71 ∷ 0x323 ∷ []) ∷ []
+two_of_three = refl
+
+none_of_one : several ((0xE9 ∷ []) ∷ []) ≡ []
+none_of_one = refl
+
+-- none of these is long
+none_is_long : first_long ((0xE9 ∷ []) ∷ (0x71 ∷ 0x323 ∷ []) ∷ []) ≡ None
+none_is_long = refl
+
+-- CR LF is known already
+line_end_is_known : HasLearned only_crlf (crlf ∷ []) only_crlf
+line_end_is_known = (negsuc 0, only_crlf, (refl, λ k other. refl), λ k t e. e, λ k. refl)
+
+-- x and a combining diaeresis
+abbrev x_diaeresis : List ℕ
+x_diaeresis = 0x78 ∷ 0x308 ∷ []
+
+first_same : (a b : ℕ) (s t : List ℕ) → a ∷ s ≡ b ∷ t → a ≡ b
+first_same a b s t e = ap (λ l. slice_index l 0) e
+
+-- the text is not known to a pass that knows the other one alone
+absent : (m : ℕ) → known_of (x_diaeresis ∷ []) m ≢ Some q_diaeresis
+absent zero e = let heads = first_same 0xD 0x71 _ _ (same_text crlf q_diaeresis e) in absurd (omega arith)
+absent (suc zero) e = let heads = first_same 0x78 0x71 _ _ (same_text x_diaeresis q_diaeresis e) in absurd (omega arith)
+absent (suc (suc m)) e = cc
+
+-- a pass that knows the second text alone, under the number that the first one had, has not learned both
+one_number_for_two : HasLearned only_crlf (q_diaeresis ∷ x_diaeresis ∷ []) (known_of (x_diaeresis ∷ [])) → ⊥
+one_number_for_two learned =
+    let both = HasLearned-known only_crlf (known_of (x_diaeresis ∷ [])) (q_diaeresis ∷ x_diaeresis ∷ []) learned in
+    let first = both 0 [] (omega arith) in
+    absent first.0 first.1

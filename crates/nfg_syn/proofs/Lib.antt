@@ -1,4 +1,5 @@
 mod Examples
 mod HashChainsLemmas
 mod OwnTextsLemmas
+mod SpellingLemmas
 mod TextListLemmas

@@ -1,6 +1,8 @@
 pub mod HashChains
 pub mod Known
 pub mod KnownLaws
+pub mod Learned
+pub mod LearnedLaws
 pub mod OwnTexts
 pub mod OwnTextsLaws
 pub mod Refusal

@@ -2,13 +2,18 @@
 use Rattle.std.proofs.Common.{◌≡◌, ℕ, suc, List, [], ◌∷◌, ◌++◌, length, take, drop, slice_get, Some, None, Bool, true, false, ℤ, pos, negsuc, refl, sym, ap, ◌∙◌, arith, subst, ◌↔◌, zero, if◌then◌else◌}
 use Rattle.std.proofs.lemmas.Grind.{common_steps}
 use lib.Utf8.{scalar as is_scalar}
-use Rattle.nfg_syn.specs.Known.{Texts, IsKnowledge, IsWithin}
+use Rattle.nfg_syn.specs.Known.{Texts, IsKnowledge, IsWithin, MapsBesides}
 use Rattle.nfg_syn.specs.Represents.{spelling, Represents}
 use Rattle.nfg_syn.specs.KnownLaws.{same_text}
 
 -- a scalar value spells itself, whatever is known
 pub spelling-scalar : (known : Texts) (c : ℕ) → is_scalar c ≡ true → spelling known (pos c) ≡ Some (c ∷ [])
 spelling-scalar known c scalar = rw scalar refl
+
+-- a number that was interned spells its text
+pub spelling-interned : (old new : Texts) (n : ℤ) (t : List ℕ) → MapsBesides old n t new → spelling new n ≡ Some t
+spelling-interned old new (pos c) t never = absurd never
+spelling-interned old new (negsuc m) t besides = besides.0
 
 -- what a number of 0 or more spells does not depend on what is known
 pub spelling-pos : (f g : Texts) (c : ℕ) → spelling f (pos c) ≡ spelling g (pos c)

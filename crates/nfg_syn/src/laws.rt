@@ -1,6 +1,7 @@
-//! Laws of what a list of numbers stands for, each the contract of a function that does nothing.
-ghost use Rattle.std.specs.Prelude.{◌≡◌, ◌↔◌, ◌++◌, ℕ, ℤ, List};
+//! Laws of what passes know and lists stand for, each the contract of a function that does nothing.
+ghost use Rattle.std.specs.Prelude.{◌≡◌, ◌↔◌, ◌++◌, ℕ, ℤ, List, All, Some};
 ghost use Rattle.nfg_syn.specs.Known.{Texts, IsKnowledge, IsWithin};
+ghost use Rattle.nfg_syn.specs.Learned.{HasLearned};
 ghost use Rattle.nfg_syn.specs.Represents.{Represents};
 
 /// A list stands for the same clusters under more knowledge.
@@ -22,4 +23,12 @@ pub fn represents_one_to_one()
         → (numbers others : List ℤ) (clusters other_clusters : List (List ℕ))
         → Represents known numbers clusters → Represents known others other_clusters
         → (numbers ≡ others) ↔ (clusters ≡ other_clusters) }
+{}
+
+/// Each text that a pass has learned is known, and what it knew before is not lost.
+pub fn learned_stays()
+    ensures known { (old new : Texts) → (texts : List (List ℕ)) → HasLearned old texts new
+        → All (λ t. (m : ℕ) × (new m ≡ Some t)) texts }
+    ensures kept { (old new : Texts) → (texts : List (List ℕ)) → HasLearned old texts new
+        → IsWithin old new }
 {}

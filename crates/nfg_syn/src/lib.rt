@@ -10,6 +10,7 @@ pub mod laws;
 mod own_table;
 mod shared;
 mod span;
+mod spelling;
 mod synthetics;
 #[cfg(test)]
 mod tests;
@@ -17,4 +18,5 @@ mod text_list;
 
 pub use own_table::{OwnPass, OwnTable};
 pub use shared::{Refused, Shared};
+pub use spelling::append_cluster;
 pub use synthetics::{InternError, Synthetics};

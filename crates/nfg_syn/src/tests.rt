@@ -1,8 +1,8 @@
 //! What no clause says: that calls succeed with ample memory, and rows from outside.
 ghost use Rattle.nfg_syn.specs.OwnTexts.{IsOwnPass};
 
-use crate::{InternError, OwnPass, OwnTable, Refused, Synthetics};
-use nfg_text::is_text;
+use crate::{InternError, OwnPass, OwnTable, Refused, Synthetics, append_cluster};
+use nfg_text::{CodeList, is_text};
 use std::alloc::Global;
 use std::process::Abort;
 use std::test::Fail;
@@ -83,6 +83,34 @@ fn a_table_grows_past_its_first_buckets(rt: HostRuntime) -> Result<(), Fail> {
     let (table, mut pass) = OwnTable::new(alloc, 1024)?;
     intern_ideographs(&rt, alloc, &table, &mut pass);
     intern_ideographs(&rt, alloc, &table, &mut pass);
+    Ok(())
+}
+
+// Interns a text of two code points, and reads it back after a letter.
+fn read_back(rt: &impl Abort, alloc: Global, table: &OwnTable, pass: &mut OwnPass, codes: [u32; 2])
+    requires { IsOwnPass table.now pass.old }
+    ensures { IsOwnPass table.now pass.new }
+{
+    assert!(rt; is_text(codes.as_slice()));
+    let mut read = CodeList::new(alloc);
+    let letter = append_cluster(table, pass, 0x71, &mut read);
+    assert_eq!(rt; letter, Ok(()));
+    match table.intern(alloc, pass, codes.as_slice()) {
+        Ok(n) => {
+            let cluster = append_cluster(table, pass, n, &mut read);
+            assert_eq!(rt; cluster, Ok(()));
+            assert_eq!(rt; read.as_slice(), [0x71, codes[0], codes[1]].as_slice());
+        }
+        Err(_) => panic!(rt; "no number"),
+    }
+}
+
+#[test]
+fn the_code_points_of_a_number_are_read_back(rt: HostRuntime) -> Result<(), Fail> {
+    let alloc = rt.alloc();
+    let (table, mut pass) = OwnTable::new(alloc, 16)?;
+    read_back(&rt, alloc, &table, &mut pass, [0x71, 0x300]);
+    read_back(&rt, alloc, &table, &mut pass, [0xD, 0xA]);
     Ok(())
 }
 

@@ -1,6 +1,7 @@
 use Rattle.std.proofs.Common.{◌≡◌, ◌<◌, None, map, ap, sym, subst, ◌∙◌}
 use Rattle.std.proofs.lemmas.Bool.{eqb-true}
-use Rattle.nfg_stream.specs.Load.{HasMade, first_long}
+use Rattle.nfg_syn.specs.Learned.{first_long}
+use Rattle.nfg_stream.specs.Load.{HasMade}
 use Rattle.nfg_stream.specs.Numbering.{AreClusters}
 use Rattle.nfg_stream.proofs.Holding.{Holds-short, clusters-short, heads-none}
 use Rattle.nfg_stream.proofs.NumbersLemmas.{narrow-whole, wide-whole, some-length}
