@@ -1,0 +1,12 @@
+pub mod ClusterPieces
+pub mod ClusterPiecesLaws
+pub mod ConcatNumbers
+pub mod ConcatPieces
+pub mod Made
+pub mod Numbered
+pub mod RepeatPieces
+pub mod Seam
+pub mod Woven
+pub mod SeamReads
+pub use Rattle.nfg_text.specs.Operations
+pub use Rattle.nfg_text.specs.Splice
