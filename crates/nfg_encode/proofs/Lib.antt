@@ -1,4 +1,5 @@
 mod Examples
 pub mod CodeLemmas
 pub mod LawLemmas
+pub mod PartLemmas
 pub mod TextLemmas

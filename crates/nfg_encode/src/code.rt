@@ -9,6 +9,7 @@ ghost use Rattle.nfg_decode.specs.Utf16.{unit_bytes};
 use nfg_decode::Encoding;
 
 /// Puts the bytes of a code point at the front of the buffer, and answers how many they are.
+#[inline(always)]
 fn put_utf8(code: u32, out: &mut [u8]) -> usize
     requires code { code < 0x11_0000 }
     requires room { 4 ≤ length out.old }
@@ -38,6 +39,7 @@ fn put_utf8(code: u32, out: &mut [u8]) -> usize
 }
 
 /// The same, high byte first.
+#[inline(always)]
 fn put_utf16_big(code: u32, out: &mut [u8]) -> usize
     requires code { code < 0x11_0000 }
     requires room { 4 ≤ length out.old }
@@ -59,6 +61,7 @@ fn put_utf16_big(code: u32, out: &mut [u8]) -> usize
 }
 
 /// The same, low byte first.
+#[inline(always)]
 fn put_utf16_little(code: u32, out: &mut [u8]) -> usize
     requires code { code < 0x11_0000 }
     requires room { 4 ≤ length out.old }
@@ -80,6 +83,7 @@ fn put_utf16_little(code: u32, out: &mut [u8]) -> usize
 }
 
 /// A byte alone.
+#[inline(always)]
 fn put_latin1(code: u32, out: &mut [u8]) -> usize
     requires code { code < 256 }
     requires room { 4 ≤ length out.old }
@@ -91,6 +95,7 @@ fn put_latin1(code: u32, out: &mut [u8]) -> usize
 }
 
 /// Puts the bytes of a code point at the front of the buffer, and answers how many they are.
+#[inline(always)]
 pub(crate) fn put_code(e: Encoding, code: u32, out: &mut [u8]) -> usize
     requires code { code < 0x11_0000 }
     requires had { has_code e code ≡ true }

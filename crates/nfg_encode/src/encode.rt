@@ -1,12 +1,12 @@
 //! The bytes of a text in an encoding.
 
-ghost use Rattle.std.specs.Prelude.{◌≡◌, ℕ, ◌*◌, ◌≤◌, ◌↔◌, ◌++◌, length, take, Some, None, OnOk, OnErr, IsErrOf, flat_map};
+ghost use Rattle.std.specs.Prelude.{◌≡◌, ℕ, ◌↔◌, ◌++◌, Some, None, OnOk, OnErr, IsErrOf, flat_map};
 ghost use Rattle.nfg_text.specs.Text.{IsText};
 ghost use Rattle.nfg_decode.specs.Encoding.{encode, encode_code, text_start};
 ghost use Rattle.nfg_encode.specs.Refusal.{AreEncodable, Grew, first_lacked};
 
-use crate::code::put_code;
 use crate::error::EncodeError;
+use crate::part::fill;
 use nfg_decode::Encoding;
 use nfg_text::ByteList;
 use std::alloc::{AllocError, Global};
@@ -25,20 +25,6 @@ fn lacked(e: Encoding, codes: &[u32]) -> Option<usize>
         Encoding::Latin1 => codes.iter().position(|code| !(*code < 256)),
         _ => None,
     }
-}
-
-/// Puts the bytes of the code points into the buffer, and answers how many they are.
-fn fill(e: Encoding, codes: &[u32], out: &mut [u8]) -> usize
-    requires codes { AreEncodable e codes.now }
-    requires room { 4 * length codes.now ≤ length out.old }
-    ensures len { result ≤ length out.new }
-    ensures bytes { take result out.new ≡ flat_map (encode_code e) codes.now }
-{
-    let mut at = 0;
-    for code in codes {
-        at += put_code(e, *code, &mut out[at..]);
-    }
-    at
 }
 
 /// Adds the bytes of the code points, without the mark.

@@ -5,6 +5,7 @@ mod code;
 mod encode;
 mod error;
 pub mod laws;
+mod part;
 #[cfg(test)]
 mod tests;
 

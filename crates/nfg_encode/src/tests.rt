@@ -48,3 +48,30 @@ fn the_first_code_that_latin1_lacks_is_named(rt: HostRuntime) -> Result<(), Fail
     assert_eq!(rt; into.as_slice(), [7].as_slice());
     Ok(())
 }
+
+#[test]
+fn code_points_of_one_to_four_bytes_stand_side_by_side(rt: HostRuntime) -> Result<(), Fail> {
+    let alloc = rt.alloc();
+    let mut into = ByteList::new(alloc);
+    match encode_into(alloc, Encoding::Utf8, &[0x61, 0x62], &mut into) {
+        Ok(()) => {}
+        Err(_) => Err("refused")?,
+    }
+    match encode_into(
+        alloc,
+        Encoding::Utf8,
+        &[0x61, 0xE9, 0x20AC, 0x1_F600],
+        &mut into,
+    ) {
+        Ok(()) => {}
+        Err(_) => Err("refused")?,
+    }
+    assert_eq!(rt;
+        into.as_slice(),
+        [
+            0x61, 0x62, 0x61, 0xC3, 0xA9, 0xE2, 0x82, 0xAC, 0xF0, 0x9F, 0x98, 0x80
+        ]
+        .as_slice()
+    );
+    Ok(())
+}

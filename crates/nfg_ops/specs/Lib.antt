@@ -1,1 +1,5 @@
-pub use Rattle.nfg_strand.specs.Pieces
+pub mod Cuts
+pub mod Places
+pub mod Precedes
+pub mod Reads
+pub mod Walk

@@ -1,10 +1,10 @@
 -- Bytes read by one read after another.
-use Rattle.std.proofs.Common.{◌≡◌, ℕ, ◌+◌, ◌-◌, ◌<◌, ◌≤◌, min, Bool, true, false, ◌||◌, nat_lt, List, ◌++◌, length, take, drop, Option, Some, None, IfSome, refl, sym, ap, ◌∙◌, arith, length-append, length-drop, length-take}
+use Rattle.std.proofs.Common.{◌≡◌, ℕ, ◌+◌, ◌<◌, ◌≤◌, Bool, true, false, ◌||◌, nat_lt, List, ◌++◌, length, take, drop, Option, Some, None, IfSome, refl, sym, ap, ◌∙◌, arith, length-append, length-drop, length-take}
 use Rattle.std.proofs.lemmas.Bool.{ltb-false, le-ltb, lt-ltb}
 use Rattle.std.proofs.lemmas.Grind.{common_steps}
 use Rattle.std.proofs.lemmas.List.{take-append-le, length-take-le}
 use Rattle.nfg_io.specs.Files.{Contents, opened_bytes, ReadsAt}
-use Rattle.nfg_run.specs.Headline.{HasFile, is_over_limit, files_limit}
+use Rattle.nfg_run.specs.Headline.{HasFile, is_over_limit, files_limit, most_after}
 use Rattle.nfg_work.specs.Evaluation.{file_limit}
 use Rattle.nfg_run.proofs.Fronts.{take-more}
 
@@ -41,10 +41,6 @@ pub length-grown : (bytes into rest grown : List ℕ) (n : ℕ) → n ≤ length
 length-grown bytes into rest grown n within e =
     let front : take n (into ++ rest) ≡ take n into = rw take-append-le refl in
     ap length e ∙ omega (arith, length-append bytes (take n (into ++ rest)), ap length front, length-take-le n into within)
-
--- the most bytes of a file after so many
-abbrev pub most_after : ℕ → ℕ
-most_after earlier = min file_limit (files_limit - earlier)
 
 over_one : (earlier count : ℕ) (a : Bool) → nat_lt file_limit count ≡ a → earlier ≤ files_limit → most_after earlier < count
     → (a || nat_lt files_limit (earlier + count)) ≡ true

@@ -1,6 +1,13 @@
 -- The words of the command line (this project's own). Each is a text in UTF-8.
-use Rattle.std.specs.Prelude.{ℕ, Bool, not, ◌&&◌, ◌||◌, if◌then◌else◌, List, [], ◌∷◌, ◌++◌, Option, Some, None, codes, bytes_eq, nat_eq}
-use Rattle.std.specs.List.{starts_with}
+use Rattle.std.specs.Prelude.{ℕ, zero, suc, ◌^◌, Bool, true, false, not, ◌&&◌, ◌||◌, ◌==◌, nat_le, nat_lt, nat_eq, if◌then◌else◌, List, [], ◌∷◌, ◌++◌, length, drop, Option, Some, None, codes, bytes_eq}
+use Rattle.std.specs.List.{list_all, starts_with}
+use Rattle.std.specs.Char.{is_ascii_digit}
+use Rattle.std.specs.Str.Parse.{digits_value}
+use Rattle.nfg_run.specs.declared.said.OptionName.{OptionName}
+use Rattle.nfg_run.specs.declared.said.OptionName.TheVariants.{Workers, Table}
+use Rattle.nfg_run.specs.declared.said.Next.{Next}
+use Rattle.nfg_run.specs.declared.said.Next.TheVariants.{Free, Value, Plain}
+use Rattle.nfg_run.specs.declared.said.Said.{Said}
 
 abbrev pub line_feed : ℕ
 line_feed = 10
@@ -11,12 +18,162 @@ usage_text =
     codes "usage: nfg run [--workers W] [--table N] SCRIPT" ++ line_feed ∷
     codes "       nfg gen [--workers W] [--table N] SEED COUNT" ++ line_feed ∷ []
 
+-- the value of one or more decimal digits, where it is below 2^64
+unfoldable pub number_of : List ℕ → Option ℕ
+number_of word =
+    if nat_le 1 (length word) && list_all is_ascii_digit word && nat_lt (digits_value 10 word) (2 ^ 64)
+    then Some (digits_value 10 word) else None
+
+-- the number, where there is one and it passes the test
+abbrev pub if_passes : (ℕ → Bool) → Option ℕ → Option ℕ
+if_passes test None = None
+if_passes test (Some number) = if test number then Some number else None
+
+-- 1 to 64 workers
+abbrev pub is_worker_count : ℕ → Bool
+is_worker_count number = nat_le 1 number && nat_le number 64
+
+-- one of the powers of two from 2^exponent to 2^(exponent + more)
+abbrev pub is_power_from : (exponent more : ℕ) → ℕ → Bool
+is_power_from exponent zero number = number == 2 ^ exponent
+is_power_from exponent (suc more) number = number == 2 ^ exponent || is_power_from (suc exponent) more number
+
+-- a power of two from 2^4 to 2^20
+abbrev pub is_table_size : ℕ → Bool
+is_table_size number = is_power_from 4 16 number
+
+-- a seed is below 2^31
+abbrev pub is_seed : ℕ → Bool
+is_seed number = nat_lt number (2 ^ 31)
+
+-- 1 to 1,048,576 spellings
+abbrev pub is_count : ℕ → Bool
+is_count number = nat_le 1 number && nat_le number 1048576
+
 -- `-`, or a word that doesn't begin with `-`
 abbrev pub is_plain_word : List ℕ → Bool
 is_plain_word word = bytes_eq word (codes "-") || not (starts_with nat_eq word (codes "-"))
 
--- the script's path, where the words are lawful: they are `run` and one plain word
+-- nothing is said
+abbrev pub nothing_said : Said
+nothing_said = record { workers = None; places = None; next = Free; plain = [] }
+
+-- an option has a number once
+abbrev pub if_first : (earlier : Option ℕ) → Said → Option Said
+if_first None said = Some said
+if_first (Some number) said = None
+
+-- the option has this number, where it has none yet
+abbrev pub with_number : Said → OptionName → Option ℕ → Option Said
+with_number said name None = None
+with_number said Workers (Some number) =
+    if_first said.workers (record { workers = Some number; places = said.places; next = Free; plain = said.plain })
+with_number said Table (Some number) =
+    if_first said.places (record { workers = said.workers; places = Some number; next = Free; plain = said.plain })
+
+-- the number that a word is as the value of the option
+abbrev pub option_number : OptionName → List ℕ → Option ℕ
+option_number Workers word = if_passes is_worker_count (number_of word)
+option_number Table word = if_passes is_table_size (number_of word)
+
+-- the option has the value, where that is lawful and the option has none yet
+abbrev pub with_value : Said → OptionName → List ℕ → Option Said
+with_value said name word = with_number said name (option_number name word)
+
+-- one more plain word
+abbrev pub with_plain : Said → List ℕ → Said
+with_plain said word =
+    record { workers = said.workers; places = said.places; next = said.next; plain = said.plain ++ word ∷ [] }
+
+-- what the next word is
+abbrev pub with_next : Said → Next → Said
+with_next said next = record { workers = said.workers; places = said.places; next = next; plain = said.plain }
+
+-- A word before `--` that isn't the value of an option: the mark `--`, a plain word, an option, or an
+-- option with its value. No other is lawful.
+abbrev pub with_free_word : Said → List ℕ → Option Said
+with_free_word said word =
+    if bytes_eq word (codes "--") then Some (with_next said Plain)
+    else (if is_plain_word word then Some (with_plain said word)
+    else (if bytes_eq word (codes "--workers") then Some (with_next said (Value Workers))
+    else (if bytes_eq word (codes "--table") then Some (with_next said (Value Table))
+    else (if starts_with nat_eq word (codes "--workers=") then with_value said Workers (drop 10 word)
+    else (if starts_with nat_eq word (codes "--table=") then with_value said Table (drop 8 word)
+    else None)))))
+
+-- a word is the value of the option before it, or free; behind `--` it is plain
+abbrev pub with_word : (next : Next) → Said → List ℕ → Option Said
+with_word Free said word = with_free_word said word
+with_word (Value name) said word = with_value said name word
+with_word Plain said word = Some (with_plain said word)
+
+-- what is said with these words, one after the other
+unfoldable pub with_words : Said → List (List ℕ) → Option Said
+with_words said [] = Some said
+with_words said (word ∷ words) = elim (with_word said.next said word) [
+  | None ↦ None
+  | Some more ↦ with_words more words
+]
+
+-- what lawful words ask for
+pub data CommandLine : Type 0 where
+  Run : (workers places : ℕ) (path : List ℕ) → CommandLine
+  Gen : (workers places seed count : ℕ) → CommandLine
+
+-- the number of an option, or another where it isn't given
+abbrev pub or_default : Option ℕ → (default : ℕ) → ℕ
+or_default None default = default
+or_default (Some number) default = number
+
+-- 4 workers, where no number is given
+abbrev pub workers_of : Said → ℕ
+workers_of said = or_default said.workers 4
+
+-- 262,144 places, where no number is given
+abbrev pub places_of : Said → ℕ
+places_of said = or_default said.places 262144
+
+-- `run` has one plain word, the script's path
+abbrev pub run_of : Said → List (List ℕ) → Option CommandLine
+run_of said (path ∷ []) = Some (Run (workers_of said) (places_of said) path)
+run_of said plain = None
+
+-- both numbers, where there are two
+abbrev pub gen_by : Said → (seed count : Option ℕ) → Option CommandLine
+gen_by said None count = None
+gen_by said (Some seed) None = None
+gen_by said (Some seed) (Some count) = Some (Gen (workers_of said) (places_of said) seed count)
+
+-- `gen` has two plain words, the seed and the count
+abbrev pub gen_of : Said → List (List ℕ) → Option CommandLine
+gen_of said (seed ∷ count ∷ []) =
+    gen_by said (if_passes is_seed (number_of seed)) (if_passes is_count (number_of count))
+gen_of said plain = None
+
+-- an option waits for its value
+abbrev pub is_waiting : Next → Bool
+is_waiting (Value name) = true
+is_waiting next = false
+
+-- what the first word asks for with what the others say
+abbrev pub asked : List ℕ → Option Said → Option CommandLine
+asked command None = None
+asked command (Some said) =
+    if is_waiting said.next then None
+    else (if bytes_eq command (codes "run") then run_of said said.plain
+    else (if bytes_eq command (codes "gen") then gen_of said said.plain
+    else None))
+
+-- what the words ask for, where they are lawful
+abbrev pub command_line : List (List ℕ) → Option CommandLine
+command_line [] = None
+command_line (command ∷ words) = asked command (with_words nothing_said words)
+
+-- the path of the script to read, where there is one
+abbrev pub path_of : Option CommandLine → Option (List ℕ)
+path_of (Some (Run workers places path)) = Some path
+path_of line = None
+
+-- the script's path, where the words are lawful and name one
 abbrev pub script_path : List (List ℕ) → Option (List ℕ)
-script_path (command ∷ path ∷ []) =
-    if bytes_eq command (codes "run") && is_plain_word path then Some path else None
-script_path words = None
+script_path words = path_of (command_line words)

@@ -1,5 +1,5 @@
 -- The headline: what a run has read, and that its answer to that was written (this project's own).
-use Rattle.std.specs.Prelude.{◌≡◌, ℕ, ◌+◌, ◌<◌, Bool, true, false, ◌||◌, nat_lt, List, [], ◌∷◌, ◌++◌, length, take, Option, Some, None, IfSome, Result, Ok, Err}
+use Rattle.std.specs.Prelude.{◌≡◌, ℕ, ◌+◌, ◌<◌, ◌≤◌, ◌-◌, min, Bool, true, false, ◌||◌, nat_lt, List, [], ◌∷◌, ◌++◌, length, take, Option, Some, None, IfSome, Result, Ok, Err}
 use Rattle.nfg_io.specs.Causes.{Rose}
 use Rattle.nfg_io.specs.Files.{FilesState, Contents, HasFailedAt}
 use Rattle.nfg_io.specs.Sink.{SinkState, Grew}
@@ -8,11 +8,15 @@ use Rattle.nfg_script.specs.Script.{NumberedCommand, load_paths}
 use Rattle.nfg_script.specs.Grammar.{parse, byte_limit}
 use Rattle.nfg_work.specs.declared.output.FileRead.{FileRead}
 use Rattle.nfg_work.specs.declared.output.FileRead.TheVariants.{Bytes, TooLong, Failed}
-use Rattle.nfg_work.specs.Evaluation.{file_limit}
+use Rattle.nfg_work.specs.declared.output.RefusedLine.{RefusedLine}
+use Rattle.nfg_work.specs.Evaluation.{file_limit, evaluate}
+use Rattle.nfg_work.specs.Laws.{has_failed}
 use Rattle.nfg_run.specs.declared.answer.Answer.{Answer}
 use Rattle.nfg_run.specs.declared.status.Status.{Status}
-use Rattle.nfg_run.specs.CommandLine.{script_path}
-use Rattle.nfg_run.specs.Answer.{answer}
+use Rattle.nfg_run.specs.declared.status.Status.TheVariants.{Done, Refused, Bad}
+use Rattle.nfg_run.specs.CommandLine.{CommandLine, Run, Gen, command_line, script_path}
+use Rattle.nfg_run.specs.Generator.{script_text}
+use Rattle.nfg_run.specs.Answer.{answer, generated_reads}
 
 -- the most bytes of all files of a script together
 abbrev pub files_limit : ℕ
@@ -78,6 +82,25 @@ abbrev pub failed_path : Option (List ℕ) → Option (List ℕ) → List FileRe
 failed_path None script reads = None
 failed_path (Some path) script reads = failed_read path script reads
 
+-- the most bytes that may be read for a load, after so many for the loads before it
+abbrev pub most_after : (earlier : ℕ) → ℕ
+most_after earlier = min file_limit (files_limit - earlier)
+
+-- the path was opened last; unless a call on it has failed, at most one byte more than `most` was read of it
+pub record IsOpen (after : FilesState) (path : List ℕ) (most : ℕ) : Type 0 where
+  pub open_path : after.open_path ≡ Some path
+  pub position : after.broken ≡ false → after.position ≤ most + 1
+
+-- Nothing is opened behind the last load that was read, nor behind a path of at most `most` bytes where
+-- none was. The files before have `earlier` bytes together.
+abbrev pub IsLastOpen : FilesState → List ℕ → (most earlier : ℕ) → List (List ℕ) → List FileRead → Type 0
+IsLastOpen after last most earlier [] reads = IsOpen after last most
+IsLastOpen after last most earlier (path ∷ paths) [] = IsOpen after last most
+IsLastOpen after last most earlier (path ∷ paths) (Failed ∷ reads) = IsOpen after path (most_after earlier)
+IsLastOpen after last most earlier (path ∷ paths) (TooLong ∷ reads) = IsOpen after path (most_after earlier)
+IsLastOpen after last most earlier (path ∷ paths) (Bytes bytes ∷ reads) =
+    IsLastOpen after path (most_after earlier) (earlier + length bytes) paths reads
+
 -- The answer is that to what was read, of which at most one failed, with its cause in the files.
 pub record IsAnswered (words : List (List ℕ)) (before after : FilesState) (given : Answer) : Type 0 where
   -- the script's bytes, or none where they can't be read
@@ -86,6 +109,9 @@ pub record IsAnswered (words : List (List ℕ)) (before after : FilesState) (giv
   pub reads : List FileRead
   pub are_read : AreRead before.contents (script_path words) script reads
   pub read_fault_cause : IfSome (failed_path (script_path words) script reads) (HasFailedAt before after)
+  -- no path is opened behind the last that was read, and at most one byte past its limit is
+  pub last_open : IfSome (script_path words)
+      (λ path. IsLastOpen after path byte_limit 0 (paths_of script) reads)
   pub answer_is : given ≡ answer words script reads
 
 -- the status is the answer's, and the bytes taken have grown by just its bytes
@@ -105,3 +131,28 @@ pub record GrewInPart (before after : Option (List ℕ)) (bytes : List ℕ) : Ty
 pub record IsCutOff (given : Answer) (before after : SinkState) : Type 0 where
   pub rose : Rose before.faults after.faults
   pub part : GrewInPart before.taken after.taken given.bytes
+
+-- the status behind the last line, or the line that is refused
+abbrev pub faultless_output : Option RefusedLine → Status
+faultless_output None = Done
+faultless_output (Some refused) = Refused
+
+-- the status of a script over so many places where no call fails, by its lines and what was read for its loads
+abbrev pub faultless_script : (places : ℕ) → Result (List NumberedCommand) ScriptError → List FileRead → Status
+faultless_script places (Err refusal) reads = Bad
+faultless_script places (Ok script) reads = faultless_output (evaluate script reads places).refused
+
+-- the status where no call fails, by what the words ask for, the script's lines and what was read for its loads
+abbrev pub faultless_status : Option CommandLine → Result (List NumberedCommand) ScriptError → List FileRead → Status
+faultless_status None script reads = Bad
+faultless_status (Some (Run workers places path)) script reads = faultless_script places script reads
+faultless_status (Some (Gen workers places seed count)) script reads =
+    faultless_script places (parse script_text) (generated_reads seed count)
+
+-- All that the words ask for was read, and the status is that of a run in which no call fails.
+pub record IsFaultless (words : List (List ℕ)) (before : FilesState) (status : Status) : Type 0 where
+  pub script : List ℕ
+  pub reads : List FileRead
+  pub are_read : AreRead before.contents (script_path words) (Some script) reads
+  pub none_failed : has_failed reads ≡ false
+  pub status_is : status ≡ faultless_status (command_line words) (parse script) reads

@@ -1,4 +1,5 @@
 pub mod Status
 pub mod CommandLine
+pub mod Generator
 pub mod Answer
 pub mod Headline

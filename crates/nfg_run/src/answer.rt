@@ -1,20 +1,28 @@
 //! The answer to the words and to what the files give.
-ghost use Rattle.std.specs.Prelude.{◌≡◌, ◌≤◌, IfOk, IsNone, Some, List, ℕ, string_bytes};
-ghost use Rattle.nfg_run.specs.CommandLine.{script_path as path_of};
-ghost use Rattle.nfg_run.specs.Answer.{answer_output, cause_text, cause_status, default_places};
+ghost use Rattle.std.specs.Prelude.{◌≡◌, ◌≢◌, ◌≤◌, ◌<◌, ◌^◌, IfOk, IsNone, None, Some, Err, List, [], ℕ, string_bytes};
+ghost use Rattle.nfg_syn.specs.Known.{IsRowSize};
+ghost use Rattle.nfg_script.specs.Grammar.{parse};
+ghost use Rattle.nfg_run.specs.CommandLine.{script_path, path_of, command_line, asked, run_of, gen_of, places_of, Run};
+ghost use Rattle.nfg_run.specs.Generator.{script_text};
+ghost use Rattle.nfg_run.specs.Answer.{answer_output, answer_script, answer_line, generated_reads, cause_text, cause_status};
+ghost use Rattle.nfg_run.specs.Answer.{reason_text as reason_told, refusal_text as refusal_told};
 ghost use Rattle.nfg_run.specs.Headline.{IsAnswered};
 
-use crate::command_line::{USAGE, script_path};
+use crate::generated_input::Generated;
+use crate::generator::generated;
+use crate::number::{read_count, read_seed};
 use crate::reading::{Buffer, PIECE, ReadError, read_loads, read_up_to};
-use crate::{Cause, Output, RefusedLine, Status, Words};
+use crate::said::{Said, Unread, read_words};
+use crate::{Cause, FileRead, Output, RefusedLine, Status, Words};
 use nfg_io::Files;
-use nfg_script::{ScriptError, parse};
+use nfg_script::{Reason, ScriptError, parse};
 use nfg_text::ByteList;
 use nfg_work::run_alone;
 use std::alloc::{AllocError, Global};
 
-/// The places of the table.
-const PLACES: u32 = 1 << 18;
+/// What is printed where the words aren't lawful.
+const USAGE: &str =
+    "usage: nfg run [--workers W] [--table N] SCRIPT\n       nfg gen [--workers W] [--table N] SEED COUNT\n";
 
 /// The most bytes of a script.
 const SCRIPT_LIMIT: usize = 1 << 20;
@@ -34,17 +42,106 @@ pub(crate) fn answer_words<F: Files>(
 ) -> Result<Answer, AllocError>
     ensures answered { IfOk result
         (IsAnswered words.now (F.state files.old) (F.state files.new)) }
-    ensures untouched { IsNone (path_of words.now) → files.new ≡ files.old }
+    ensures untouched { IsNone (script_path words.now) → files.new ≡ files.old }
 {
-    match script_path(words) {
-        None => text_answer(alloc, Status::Bad, USAGE),
-        Some(path) => answer_path(alloc, files, path),
+    if words.len() == 0 {
+        return text_answer(alloc, Status::Bad, USAGE);
+    }
+    match read_words(alloc, words) {
+        Ok(said) => answer_said(alloc, files, words.get(0), &said),
+        Err(Unread::Unlawful) => text_answer(alloc, Status::Bad, USAGE),
+        Err(Unread::OutOfMemory) => Err(AllocError),
     }
 }
 
-/// The answer where the words name this path.
-fn answer_path<F: Files>(alloc: Global, files: &mut F, path: &str) -> Result<Answer, AllocError>
-    ensures { IfOk result (λ given. (words : List (List ℕ)) → path_of words ≡ Some path.now
+/// The answer to the first word and to what the others say.
+fn answer_said<F: Files>(
+    alloc: Global,
+    files: &mut F,
+    command: &str,
+    said: &Said,
+) -> Result<Answer, AllocError>
+    requires { IsRowSize (places_of said.now) }
+    ensures answered { IfOk result (λ given. (words : List (List ℕ))
+        → command_line words ≡ asked command.now (Some said.now)
+        → IsAnswered words (F.state files.old) (F.state files.new) given) }
+    ensures untouched { IsNone (path_of (asked command.now (Some said.now))) → files.new ≡ files.old }
+{
+    if said.is_waiting() {
+        return text_answer(alloc, Status::Bad, USAGE);
+    }
+    if command == "run" {
+        return answer_run(alloc, files, said);
+    }
+    if command == "gen" {
+        return answer_gen(alloc, said);
+    }
+    text_answer(alloc, Status::Bad, USAGE)
+}
+
+/// The answer to `run` with what is said.
+fn answer_run<F: Files>(alloc: Global, files: &mut F, said: &Said) -> Result<Answer, AllocError>
+    requires { IsRowSize (places_of said.now) }
+    ensures answered { IfOk result (λ given. (words : List (List ℕ))
+        → command_line words ≡ run_of said.now said.now.plain
+        → IsAnswered words (F.state files.old) (F.state files.new) given) }
+    ensures untouched { IsNone (path_of (run_of said.now said.now.plain)) → files.new ≡ files.old }
+{
+    if said.plain.len() != 1 {
+        return text_answer(alloc, Status::Bad, USAGE);
+    }
+    answer_path(alloc, files, said.plain.get(0), said.places())
+}
+
+/// The answer to `gen` with what is said.
+fn answer_gen(alloc: Global, said: &Said) -> Result<Answer, AllocError>
+    requires { IsRowSize (places_of said.now) }
+    ensures { IfOk result (λ given. given ≡ answer_line (gen_of said.now said.now.plain) None []) }
+{
+    if said.plain.len() != 2 {
+        return text_answer(alloc, Status::Bad, USAGE);
+    }
+    let Some(seed) = read_seed(said.plain.get(0)) else {
+        return text_answer(alloc, Status::Bad, USAGE);
+    };
+    let Some(count) = read_count(said.plain.get(1)) else {
+        return text_answer(alloc, Status::Bad, USAGE);
+    };
+    answer_generated(alloc, seed, count, said.places())
+}
+
+/// The answer to the script and the files that are generated.
+fn answer_generated(alloc: Global, seed: u32, count: u32, places: u32) -> Result<Answer, AllocError>
+    requires seed { seed < 2 ^ 31 }
+    requires at_least { 1 ≤ count }
+    requires at_most { count ≤ 2 ^ 20 }
+    requires places { IsRowSize places }
+    ensures { IfOk result (λ given.
+        given ≡ answer_script places (parse script_text) (generated_reads seed count)) }
+{
+    let Generated { script, a, b } = generated(alloc, seed, count)?;
+    let mut reads = Vec::new(alloc);
+    reads.push(FileRead::Bytes(a))?;
+    reads.push(FileRead::Bytes(b))?;
+    match parse(alloc, script.as_slice()) {
+        Err(error) => refusal_answer(alloc, error),
+        Ok(script) => {
+            let output = run_alone(alloc, &script, reads.as_slice(), places)?;
+            answer_to_output(alloc, output)
+        }
+    }
+}
+
+/// The answer where the words name this path and so many places.
+fn answer_path<F: Files>(
+    alloc: Global,
+    files: &mut F,
+    path: &str,
+    places: u32,
+) -> Result<Answer, AllocError>
+    requires { IsRowSize places }
+    ensures { IfOk result (λ given. (words : List (List ℕ)) (workers : ℕ)
+        → command_line words ≡ Some (Run workers places path.now)
         → IsAnswered words (F.state files.old) (F.state files.new) given) }
 {
     let mut buffer: Buffer = [0; PIECE];
@@ -56,13 +153,53 @@ fn answer_path<F: Files>(alloc: Global, files: &mut F, path: &str) -> Result<Ans
         Err(ReadError::OutOfMemory) => return Err(AllocError),
     };
     match parse(alloc, bytes.as_slice()) {
-        Err(ScriptError::OutOfMemory) => Err(AllocError),
-        Err(_) => text_answer(alloc, Status::Bad, "script: bad\n"),
+        Err(error) => refusal_answer(alloc, error),
         Ok(script) => {
             let reads = read_loads(alloc, files, &mut buffer, &script)?;
-            let output = run_alone(alloc, &script, reads.as_slice(), PLACES)?;
+            let output = run_alone(alloc, &script, reads.as_slice(), places)?;
             answer_to_output(alloc, output)
         }
+    }
+}
+
+/// The answer to a script that is refused.
+fn refusal_answer(alloc: Global, error: ScriptError) -> Result<Answer, AllocError>
+    ensures told { IfOk result (λ given. given ≡ answer_script 0 (Err error) []) }
+    ensures refused { IfOk result (λ _. error ≢ ScriptError.OutOfMemory) }
+{
+    let text = refusal_text(alloc, error)?;
+    text_answer(alloc, Status::Bad, text.as_str())
+}
+
+/// The line that tells why a script is refused.
+fn refusal_text(alloc: Global, error: ScriptError) -> Result<String, AllocError>
+    ensures told { IfOk result (λ text. string_bytes text ≡ refusal_told error) }
+    ensures refused { IfOk result (λ _. error ≢ ScriptError.OutOfMemory) }
+{
+    match error {
+        ScriptError::TooLong => String::from_str(alloc, "script: too long\n"),
+        ScriptError::Malformed { at } => format!(in alloc; "script: malformed at byte {at}\n"),
+        ScriptError::Line { line, reason } => {
+            let text = format!(in alloc; "script line {line}: {}\n", reason_text(reason))?;
+            Ok(text)
+        }
+        ScriptError::OutOfMemory => Err(AllocError),
+    }
+}
+
+/// The text that tells why a line of a script is refused.
+fn reason_text(reason: Reason) -> &'static str
+    ensures { result.now ≡ reason_told reason }
+{
+    match reason {
+        Reason::BadCommand => "bad command",
+        Reason::WordCount => "wrong count of words",
+        Reason::BadName => "bad name",
+        Reason::NameTaken => "name taken",
+        Reason::UnknownName => "unknown name",
+        Reason::BadNumber => "bad number",
+        Reason::BadEncoding => "bad encoding",
+        Reason::BadCodePoint => "bad code point",
     }
 }
 
@@ -106,6 +243,7 @@ fn text_of(alloc: Global, cause: Cause) -> Result<String, AllocError>
         Cause::Malformed { at } => format!(in alloc; "malformed at byte {at}"),
         Cause::OutOfRange => String::from_str(alloc, "out of range"),
         Cause::NotEncodable { at } => format!(in alloc; "not encodable at grapheme {at}"),
+        Cause::StringTooLong => String::from_str(alloc, "string too long"),
         Cause::AllTooLong => String::from_str(alloc, "all strings too long"),
         Cause::ClusterTooLong { at } => format!(in alloc; "cluster too long at grapheme {at}"),
         Cause::TableFull => String::from_str(alloc, "table full"),

@@ -2,13 +2,23 @@
 #![tactic(auto)]
 
 ghost use Rattle.std.specs.Prelude.{◌≡◌, ◌≢◌, IsNone};
+ghost use Rattle.nfg_io.specs.Causes.{Rose};
 ghost use Rattle.nfg_run.specs.CommandLine.{script_path};
-ghost use Rattle.nfg_run.specs.Headline.{IsAnswered, IsDelivered, IsCutOff};
+ghost use Rattle.nfg_run.specs.Headline.{IsAnswered, IsDelivered, IsCutOff, IsFaultless};
 ghost use Rattle.nfg_run.specs.declared.answer.Answer.{Answer};
 
 mod answer;
-mod command_line;
+#[cfg(test)]
+mod command_line_tests;
+#[cfg(test)]
+mod example_tests;
+mod generated_input;
+mod generator;
+#[cfg(test)]
+mod generator_tests;
+mod number;
 mod reading;
+mod said;
 mod status;
 #[cfg(test)]
 mod tests;
@@ -16,16 +26,20 @@ mod words;
 mod writing;
 
 use crate::answer::answer_words;
+pub use crate::generated_input::Generated;
+pub use crate::generator::generated;
 pub use crate::status::Status;
 pub use crate::words::Words;
 use crate::writing::write_all;
 use nfg_io::{Files, Sink};
+use nfg_work::laws::failed_read_is_cause;
 pub use nfg_work::{Cause, FileRead, Gate, OpenGate, Output, RefusedLine};
 use std::alloc::Global;
 use std::marker::Sync;
 use std::thread::Threads;
 
-/// Does what the words of the command line ask: reads the script and its files, and writes the answer.
+/// Does what the words of the command line ask: reads the script and its files, or generates them, and
+/// writes the answer.
 ///
 /// `rt` and `gate` aren't used.
 pub fn run<R: Threads + Sync, F: Files, S: Sink, G: Gate>(
@@ -46,12 +60,23 @@ pub fn run<R: Threads + Sync, F: Files, S: Sink, G: Gate>(
         → (given : Answer) × IsAnswered words.now (F.state files.old) (F.state files.new) given
         × IsCutOff given (S.state out.old) (S.state out.new) }
 
+    // A read fault has its cause in the files: their count rose.
+    ensures read_fault_rose { result ≡ Status.ReadFault
+        → Rose (F.state files.old).faults (F.state files.new).faults }
+
+    // Where no count rose, a run is done unless it lacks memory, or the words, the script or a line are refused.
+    ensures faultless { result ≢ Status.OutOfMemory
+        → ¬ Rose (F.state files.old).faults (F.state files.new).faults
+        → ¬ Rose (S.state out.old).faults (S.state out.new).faults
+        → IsFaultless words.now (F.state files.old) result }
+
     // Without memory nothing was written.
     ensures nothing_written { result ≡ Status.OutOfMemory → out.new ≡ out.old }
 
     // No file is touched unless the words name a script.
     ensures files_untouched { IsNone (script_path words.now) → files.new ≡ files.old }
 {
+    failed_read_is_cause();
     let Ok(answer) = answer_words(alloc, words, files) else {
         return Status::OutOfMemory;
     };

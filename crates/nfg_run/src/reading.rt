@@ -1,8 +1,8 @@
 //! Files are read.
-ghost use Rattle.std.specs.Prelude.{◌≡◌, ◌≤◌, ◌<◌, ◌+◌, length, take, drop, IfOk, IfSome, MatchOption, IsErrOf, [], ◌∷◌};
+ghost use Rattle.std.specs.Prelude.{◌≡◌, ◌≤◌, ◌<◌, ◌+◌, ℕ, List, length, take, drop, Some, IfOk, IfSome, MatchOption, IsErrOf, [], ◌∷◌};
 ghost use Rattle.nfg_io.specs.Files.{HasFailedAt};
 ghost use Rattle.nfg_script.specs.Script.{load_paths, is_load as is_load_command};
-ghost use Rattle.nfg_run.specs.Headline.{HasFile, AreLoadsRead, failed_load, files_limit};
+ghost use Rattle.nfg_run.specs.Headline.{HasFile, AreLoadsRead, failed_load, files_limit, most_after, IsOpen, IsLastOpen};
 ghost use Rattle.nfg_run.specs.declared.reading.ReadError.{ReadError};
 ghost use Rattle.nfg_run.specs.declared.reading.ReadError.TheVariants.{Failed as ReadFailed, OutOfMemory as NoMemory};
 
@@ -58,6 +58,8 @@ pub(crate) fn read_up_to<F: Files>(
     ensures bytes { IfOk result
         (λ bytes. HasFile (F.state files.old).contents path.now (λ file. bytes ≡ take limit file)) }
     ensures within { IfOk result (λ bytes. length bytes ≤ limit) }
+    ensures open_path { IfOk result (λ _. (F.state files.new).open_path ≡ Some path.now) }
+    ensures position { IfOk result (λ _. (F.state files.new).position ≤ limit) }
     ensures failed { IsErrOf result ReadError.Failed
         → HasFailedAt (F.state files.old) (F.state files.new) path.now }
     ensures contents { (F.state files.new).contents ≡ (F.state files.old).contents }
@@ -89,6 +91,7 @@ fn read_load<F: Files>(
         AreLoadsRead (F.state files.old).contents earlier (path.now ∷ []) (read ∷ [])) }
     ensures failed { IfOk result (λ read. IfSome (failed_load (path.now ∷ []) (read ∷ []))
         (HasFailedAt (F.state files.old) (F.state files.new))) }
+    ensures is_open { IfOk result (λ _. IsOpen (F.state files.new) path.now (most_after earlier)) }
     ensures contents { (F.state files.new).contents ≡ (F.state files.old).contents }
     ensures never_falls { (F.state files.old).faults ≤ (F.state files.new).faults }
 {
@@ -135,6 +138,10 @@ pub(crate) fn read_loads<F: Files>(
         (λ reads. AreLoadsRead (F.state files.old).contents 0 (load_paths script.now) reads.items) }
     ensures failed { IfOk result (λ reads. IfSome (failed_load (load_paths script.now) reads.items)
         (HasFailedAt (F.state files.old) (F.state files.new))) }
+    // whatever path was opened last before
+    ensures last_open { IfOk result (λ reads. (last : List ℕ) (most : ℕ)
+        → IsOpen (F.state files.old) last most
+        → IsLastOpen (F.state files.new) last most 0 (load_paths script.now) reads.items) }
     ensures never_falls { (F.state files.old).faults ≤ (F.state files.new).faults }
 {
     let mut reads = Vec::new(alloc);

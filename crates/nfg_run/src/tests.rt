@@ -9,26 +9,26 @@ use std::process::Abort;
 use std::test::Fail;
 use std::thread::Threads;
 
-const SCRIPT: &[u8] = b"load a utf8 f\nlen a\nshow a\n";
+pub(crate) const SCRIPT: &[u8] = b"load a utf8 f\nlen a\nshow a\n";
 
 /// What a run finds: the words of its command line, the script `s`, and the files `f` and `g`.
 #[derive(Clone, Copy)]
-struct Found<'a> {
-    line: &'a str,
-    script: &'a [u8],
-    f: &'a [u8],
-    g: &'a [u8],
+pub(crate) struct Found<'a> {
+    pub line: &'a str,
+    pub script: &'a [u8],
+    pub f: &'a [u8],
+    pub g: &'a [u8],
 }
 
 /// How the files and the sink behave: the most bytes that a call takes or gives, and the calls that fail.
 #[derive(Clone, Copy)]
-struct Outside {
-    step: usize,
-    failing_call: u64,
-    failing_write: u64,
+pub(crate) struct Outside {
+    pub step: usize,
+    pub failing_call: u64,
+    pub failing_write: u64,
 }
 
-const SOUND: Outside = Outside {
+pub(crate) const SOUND: Outside = Outside {
     step: 1000,
     failing_call: u64::MAX,
     failing_write: u64::MAX,
@@ -37,7 +37,7 @@ const SOUND: Outside = Outside {
 const ONE_BYTE: Outside = Outside { step: 1, ..SOUND };
 
 /// The script over one file.
-fn over<'a>(script: &'a [u8], f: &'a [u8]) -> Found<'a> {
+pub(crate) fn over<'a>(script: &'a [u8], f: &'a [u8]) -> Found<'a> {
     Found {
         line: "run s",
         script,
@@ -56,7 +56,7 @@ fn words_of(alloc: Global, line: &str) -> Result<Words, AllocError> {
 }
 
 /// What the run gives: the status and the bytes taken.
-fn outcome<R: Threads + Sync>(
+pub(crate) fn outcome<R: Threads + Sync>(
     rt: &R,
     alloc: Global,
     found: Found,
@@ -233,19 +233,23 @@ fn repeated(alloc: Global, byte: u8, count: usize) -> Result<Vec<u8>, AllocError
 }
 
 #[test]
-fn a_refused_script_is_bad(rt: HostRuntime) -> Result<(), Fail> {
+fn a_refused_script_tells_why(rt: HostRuntime) -> Result<(), Fail> {
     let lines = repeated(rt.alloc(), b'\n', 10_001)?;
-    for script in [
-        b"cat x a b\n".as_slice(),
-        b"frob\n".as_slice(),
-        b"text a D800\n".as_slice(),
-        b"text a 61\ntext a 62\n".as_slice(),
-        b"a\xff".as_slice(),
-        lines.as_slice(),
+    for (script, wanted) in [
+        (b"cat x a b\n".as_slice(), "script line 1: unknown name\n"),
+        (b"text a D800\n", "script line 1: bad code point\n"),
+        (b"frob\n", "script line 1: bad command\n"),
+        (b"text a 61\nrep b a -1\n", "script line 2: bad number\n"),
+        (b"text a 61\ntext a 62\n", "script line 2: name taken\n"),
+        (b"# one\n\nlen\n", "script line 3: wrong count of words\n"),
+        (b"text a-b", "script line 1: bad name\n"),
+        (b"load a utf9 f", "script line 1: bad encoding\n"),
+        (b"a\xff", "script: malformed at byte 1\n"),
+        (lines.as_slice(), "script: too long\n"),
     ] {
         let (status, taken) = outcome(&rt, rt.alloc(), over(script, b""), SOUND)?;
         assert!(rt; status == Status::Bad);
-        assert!(rt; taken.as_slice() == b"script: bad\n".as_slice());
+        assert!(rt; taken.as_slice() == wanted.as_bytes());
     }
     Ok(())
 }
@@ -263,7 +267,7 @@ fn the_limits_of_a_script_are_exact(rt: HostRuntime) -> Result<(), Fail> {
     let found = over(bytes.as_slice(), b"");
     let (status, taken) = outcome(&rt, rt.alloc(), found, SOUND)?;
     assert!(rt; status == Status::Bad);
-    assert!(rt; taken.as_slice() == b"script: bad\n".as_slice());
+    assert!(rt; taken.as_slice() == b"script: too long\n".as_slice());
     Ok(())
 }
 
@@ -301,24 +305,6 @@ fn a_file_of_67108865_bytes_is_too_long(rt: HostRuntime) -> Result<(), Fail> {
     let (status, taken) = outcome(&rt, rt.alloc(), found, outside)?;
     assert!(rt; status == Status::Refused);
     assert!(rt; taken.as_slice() == b"line 1: file too long\n".as_slice());
-    Ok(())
-}
-
-#[test]
-fn other_words_give_the_usage(rt: HostRuntime) -> Result<(), Fail> {
-    for line in ["run", "s", "run -h", "run -- s", "gen s", "run s s"] {
-        let found = Found {
-            line,
-            ..over(SCRIPT, b"x")
-        };
-        let (status, taken) = outcome(&rt, rt.alloc(), found, SOUND)?;
-        assert!(rt; status == Status::Bad);
-        assert!(rt;
-            taken.as_slice().starts_with(
-                b"usage: nfg run [--workers W] [--table N] SCRIPT\n       nfg gen "
-            )
-        );
-    }
     Ok(())
 }
 

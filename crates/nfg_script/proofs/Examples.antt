@@ -6,12 +6,12 @@ use Rattle.std.specs.Str.Lossy.{utf8_valid_len}
 use Rattle.std.specs.Char.{encode_utf8}
 use Rattle.nfg_decode.specs.declared.encoding.Encoding.TheVariants.{Utf16, Utf16Le, Latin1}
 use Rattle.nfg_script.specs.declared.command.Command.{Command}
-use Rattle.nfg_script.specs.declared.command.Command.TheVariants.{Load, Text, Sub, Len, Show, Shape, Put}
+use Rattle.nfg_script.specs.declared.command.Command.TheVariants.{Load, Text, Cat, Sub, Rep, Find, Rfind, Eq, Cmp, Len, Show, Shape, Put}
 use Rattle.nfg_script.specs.declared.error.Reason.TheVariants.{BadCommand, WordCount, BadName, NameTaken, UnknownName, BadNumber, BadEncoding, BadCodePoint}
 use Rattle.nfg_script.specs.declared.error.ScriptError.TheVariants.{Malformed, Line}
 use Rattle.nfg_script.specs.Script.{NumberedCommand}
 use Rattle.nfg_script.specs.Words.{words_of, is_name, place_of, new_name, known_name, number_of, encoding_of, code_point_of, code_points_of}
-use Rattle.nfg_script.specs.Line.{load_form, text_form, new_and_known, two_numbers, sub_form, one_name, one_name_form, put_form, form_of, read_words}
+use Rattle.nfg_script.specs.Line.{load_form, text_form, cat_form, sub_form, rep_form, search_form, two_names_form, one_name_form, put_form, new_and_known, two_known, two_numbers, form_of, read_words}
 use Rattle.nfg_script.specs.Grammar.{lines_of, and_line, commands_from, parse}
 
 -- Lines and words.
@@ -158,7 +158,7 @@ abbrev numbered : (line : ℕ) → Command → NumberedCommand
 numbered line command = record { line = line; command = command; path = []; codes = [] }
 
 an_empty_script : parse ([]) ≡ Ok []
-unfolding parse is_utf8 chars encode_utf8 lines_of words_of commands_from and_line read_words form_of load_form text_form new_and_known two_numbers sub_form one_name one_name_form put_form new_name known_name is_name place_of number_of encoding_of code_points_of code_point_of
+unfolding parse is_utf8 chars encode_utf8 lines_of words_of commands_from and_line read_words form_of load_form text_form cat_form sub_form rep_form search_form two_names_form one_name_form put_form new_and_known two_known two_numbers new_name known_name is_name place_of number_of encoding_of code_points_of code_point_of
 an_empty_script = refl
 
 every_command : parse (lines (codes "load a utf16 ../f.txt" ∷ codes "text b 71 323" ∷ codes "sub c b 0 18446744073709551615" ∷ codes "len c" ∷ codes "show a" ∷ codes "shape b" ∷ codes "put c latin1" ∷ [])) ≡ Ok (
@@ -166,55 +166,77 @@ every_command : parse (lines (codes "load a utf16 ../f.txt" ∷ codes "text b 71
     ∷ record { line = 2; command = Text 1; path = []; codes = 0x71 ∷ 0x323 ∷ [] }
     ∷ numbered 3 (Sub 2 1 0 18446744073709551615) ∷ numbered 4 (Len 2) ∷ numbered 5 (Show 0)
     ∷ numbered 6 (Shape 1) ∷ numbered 7 (Put 2 Latin1) ∷ [])
-unfolding parse is_utf8 chars encode_utf8 lines_of words_of commands_from and_line read_words form_of load_form text_form new_and_known two_numbers sub_form one_name one_name_form put_form new_name known_name is_name place_of number_of encoding_of code_points_of code_point_of
+unfolding parse is_utf8 chars encode_utf8 lines_of words_of commands_from and_line read_words form_of load_form text_form cat_form sub_form rep_form search_form two_names_form one_name_form put_form new_and_known two_known two_numbers new_name known_name is_name place_of number_of encoding_of code_points_of code_point_of
 every_command = refl
 
+every_command_of_two : parse (lines (codes "text a" ∷ codes "cat b a a" ∷ codes "rep c b 3" ∷ codes "find c a 1" ∷ codes "rfind a c 2" ∷ codes "eq b c" ∷ codes "cmp c b" ∷ [])) ≡ Ok (
+    numbered 1 (Text 0) ∷ numbered 2 (Cat 1 0 0) ∷ numbered 3 (Rep 2 1 3) ∷ numbered 4 (Find 2 0 1)
+    ∷ numbered 5 (Rfind 0 2 2) ∷ numbered 6 (Eq 1 2) ∷ numbered 7 (Cmp 2 1) ∷ [])
+unfolding parse is_utf8 chars encode_utf8 lines_of words_of commands_from and_line read_words form_of load_form text_form cat_form sub_form rep_form search_form two_names_form one_name_form put_form new_and_known two_known two_numbers new_name known_name is_name place_of number_of encoding_of code_points_of code_point_of
+every_command_of_two = refl
+
 skipped_lines_count : parse (lines (codes "# a comment" ∷ [] ∷ (32 ∷ 9 ∷ codes "#x y") ∷ (9 ∷ codes "text" ++ 9 ∷ codes "a" ++ 13 ∷ []) ∷ []) ++ codes "len a") ≡ Ok (numbered 4 (Text 0) ∷ numbered 5 (Len 0) ∷ [])
-unfolding parse is_utf8 chars encode_utf8 lines_of words_of commands_from and_line read_words form_of load_form text_form new_and_known two_numbers sub_form one_name one_name_form put_form new_name known_name is_name place_of number_of encoding_of code_points_of code_point_of
+unfolding parse is_utf8 chars encode_utf8 lines_of words_of commands_from and_line read_words form_of load_form text_form cat_form sub_form rep_form search_form two_names_form one_name_form put_form new_and_known two_known two_numbers new_name known_name is_name place_of number_of encoding_of code_points_of code_point_of
 skipped_lines_count = refl
 
 a_text_without_code_points : parse (lines (codes "text a" ∷ [])) ≡ Ok (numbered 1 (Text 0) ∷ [])
-unfolding parse is_utf8 chars encode_utf8 lines_of words_of commands_from and_line read_words form_of load_form text_form new_and_known two_numbers sub_form one_name one_name_form put_form new_name known_name is_name place_of number_of encoding_of code_points_of code_point_of
+unfolding parse is_utf8 chars encode_utf8 lines_of words_of commands_from and_line read_words form_of load_form text_form cat_form sub_form rep_form search_form two_names_form one_name_form put_form new_and_known two_known two_numbers new_name known_name is_name place_of number_of encoding_of code_points_of code_point_of
 a_text_without_code_points = refl
 
 an_unknown_name : parse (lines (codes "len x" ∷ [])) ≡ Err (Line 1 UnknownName)
-unfolding parse is_utf8 chars encode_utf8 lines_of words_of commands_from and_line read_words form_of load_form text_form new_and_known two_numbers sub_form one_name one_name_form put_form new_name known_name is_name place_of number_of encoding_of code_points_of code_point_of
+unfolding parse is_utf8 chars encode_utf8 lines_of words_of commands_from and_line read_words form_of load_form text_form cat_form sub_form rep_form search_form two_names_form one_name_form put_form new_and_known two_known two_numbers new_name known_name is_name place_of number_of encoding_of code_points_of code_point_of
 an_unknown_name = refl
 
 a_surrogate_in_a_text : parse (lines (codes "text a D800" ∷ [])) ≡ Err (Line 1 BadCodePoint)
-unfolding parse is_utf8 chars encode_utf8 lines_of words_of commands_from and_line read_words form_of load_form text_form new_and_known two_numbers sub_form one_name one_name_form put_form new_name known_name is_name place_of number_of encoding_of code_points_of code_point_of
+unfolding parse is_utf8 chars encode_utf8 lines_of words_of commands_from and_line read_words form_of load_form text_form cat_form sub_form rep_form search_form two_names_form one_name_form put_form new_and_known two_known two_numbers new_name known_name is_name place_of number_of encoding_of code_points_of code_point_of
 a_surrogate_in_a_text = refl
 
 an_unknown_command : parse (lines (codes "frob" ∷ [])) ≡ Err (Line 1 BadCommand)
-unfolding parse is_utf8 chars encode_utf8 lines_of words_of commands_from and_line read_words form_of load_form text_form new_and_known two_numbers sub_form one_name one_name_form put_form new_name known_name is_name place_of number_of encoding_of code_points_of code_point_of
+unfolding parse is_utf8 chars encode_utf8 lines_of words_of commands_from and_line read_words form_of load_form text_form cat_form sub_form rep_form search_form two_names_form one_name_form put_form new_and_known two_known two_numbers new_name known_name is_name place_of number_of encoding_of code_points_of code_point_of
 an_unknown_command = refl
 
 a_negative_number : parse (lines (codes "text a 61" ∷ codes "sub b a -1 0" ∷ [])) ≡ Err (Line 2 BadNumber)
-unfolding parse is_utf8 chars encode_utf8 lines_of words_of commands_from and_line read_words form_of load_form text_form new_and_known two_numbers sub_form one_name one_name_form put_form new_name known_name is_name place_of number_of encoding_of code_points_of code_point_of
+unfolding parse is_utf8 chars encode_utf8 lines_of words_of commands_from and_line read_words form_of load_form text_form cat_form sub_form rep_form search_form two_names_form one_name_form put_form new_and_known two_known two_numbers new_name known_name is_name place_of number_of encoding_of code_points_of code_point_of
 a_negative_number = refl
 
 a_name_twice : parse (lines (codes "text a 61" ∷ codes "text a 62" ∷ [])) ≡ Err (Line 2 NameTaken)
-unfolding parse is_utf8 chars encode_utf8 lines_of words_of commands_from and_line read_words form_of load_form text_form new_and_known two_numbers sub_form one_name one_name_form put_form new_name known_name is_name place_of number_of encoding_of code_points_of code_point_of
+unfolding parse is_utf8 chars encode_utf8 lines_of words_of commands_from and_line read_words form_of load_form text_form cat_form sub_form rep_form search_form two_names_form one_name_form put_form new_and_known two_known two_numbers new_name known_name is_name place_of number_of encoding_of code_points_of code_point_of
 a_name_twice = refl
 
 a_name_before_its_line : parse (lines (codes "sub a a 0 1" ∷ [])) ≡ Err (Line 1 UnknownName)
-unfolding parse is_utf8 chars encode_utf8 lines_of words_of commands_from and_line read_words form_of load_form text_form new_and_known two_numbers sub_form one_name one_name_form put_form new_name known_name is_name place_of number_of encoding_of code_points_of code_point_of
+unfolding parse is_utf8 chars encode_utf8 lines_of words_of commands_from and_line read_words form_of load_form text_form cat_form sub_form rep_form search_form two_names_form one_name_form put_form new_and_known two_known two_numbers new_name known_name is_name place_of number_of encoding_of code_points_of code_point_of
 a_name_before_its_line = refl
 
+an_unknown_second_name : parse (lines (codes "text a" ∷ codes "cat b a b" ∷ [])) ≡ Err (Line 2 UnknownName)
+unfolding parse is_utf8 chars encode_utf8 lines_of words_of commands_from and_line read_words form_of load_form text_form cat_form sub_form rep_form search_form two_names_form one_name_form put_form new_and_known two_known two_numbers new_name known_name is_name place_of number_of encoding_of code_points_of code_point_of
+an_unknown_second_name = refl
+
+a_name_before_a_number : parse (lines (codes "text a" ∷ codes "find a b -" ∷ [])) ≡ Err (Line 2 UnknownName)
+unfolding parse is_utf8 chars encode_utf8 lines_of words_of commands_from and_line read_words form_of load_form text_form cat_form sub_form rep_form search_form two_names_form one_name_form put_form new_and_known two_known two_numbers new_name known_name is_name place_of number_of encoding_of code_points_of code_point_of
+a_name_before_a_number = refl
+
+a_search_from_no_number : parse (lines (codes "text a" ∷ codes "rfind a a -" ∷ [])) ≡ Err (Line 2 BadNumber)
+unfolding parse is_utf8 chars encode_utf8 lines_of words_of commands_from and_line read_words form_of load_form text_form cat_form sub_form rep_form search_form two_names_form one_name_form put_form new_and_known two_known two_numbers new_name known_name is_name place_of number_of encoding_of code_points_of code_point_of
+a_search_from_no_number = refl
+
+a_third_name_for_eq : parse (lines (codes "text a" ∷ codes "eq a a a" ∷ [])) ≡ Err (Line 2 WordCount)
+unfolding parse is_utf8 chars encode_utf8 lines_of words_of commands_from and_line read_words form_of load_form text_form cat_form sub_form rep_form search_form two_names_form one_name_form put_form new_and_known two_known two_numbers new_name known_name is_name place_of number_of encoding_of code_points_of code_point_of
+a_third_name_for_eq = refl
+
 the_count_comes_before_the_words : parse (lines (codes "sub - + -" ∷ [])) ≡ Err (Line 1 WordCount)
-unfolding parse is_utf8 chars encode_utf8 lines_of words_of commands_from and_line read_words form_of load_form text_form new_and_known two_numbers sub_form one_name one_name_form put_form new_name known_name is_name place_of number_of encoding_of code_points_of code_point_of
+unfolding parse is_utf8 chars encode_utf8 lines_of words_of commands_from and_line read_words form_of load_form text_form cat_form sub_form rep_form search_form two_names_form one_name_form put_form new_and_known two_known two_numbers new_name known_name is_name place_of number_of encoding_of code_points_of code_point_of
 the_count_comes_before_the_words = refl
 
 words_from_left_to_right : parse (lines (codes "text a" ∷ codes "sub b a x y" ∷ [])) ≡ Err (Line 2 BadNumber)
-unfolding parse is_utf8 chars encode_utf8 lines_of words_of commands_from and_line read_words form_of load_form text_form new_and_known two_numbers sub_form one_name one_name_form put_form new_name known_name is_name place_of number_of encoding_of code_points_of code_point_of
+unfolding parse is_utf8 chars encode_utf8 lines_of words_of commands_from and_line read_words form_of load_form text_form cat_form sub_form rep_form search_form two_names_form one_name_form put_form new_and_known two_known two_numbers new_name known_name is_name place_of number_of encoding_of code_points_of code_point_of
 words_from_left_to_right = refl
 
 the_first_bad_line : parse (lines (codes "# one" ∷ codes "put a utf9" ∷ codes "frob" ∷ [])) ≡ Err (Line 2 UnknownName)
-unfolding parse is_utf8 chars encode_utf8 lines_of words_of commands_from and_line read_words form_of load_form text_form new_and_known two_numbers sub_form one_name one_name_form put_form new_name known_name is_name place_of number_of encoding_of code_points_of code_point_of
+unfolding parse is_utf8 chars encode_utf8 lines_of words_of commands_from and_line read_words form_of load_form text_form cat_form sub_form rep_form search_form two_names_form one_name_form put_form new_and_known two_known two_numbers new_name known_name is_name place_of number_of encoding_of code_points_of code_point_of
 the_first_bad_line = refl
 
 an_unknown_encoding : parse (lines (codes "text a" ∷ codes "put a utf9" ∷ [])) ≡ Err (Line 2 BadEncoding)
-unfolding parse is_utf8 chars encode_utf8 lines_of words_of commands_from and_line read_words form_of load_form text_form new_and_known two_numbers sub_form one_name one_name_form put_form new_name known_name is_name place_of number_of encoding_of code_points_of code_point_of
+unfolding parse is_utf8 chars encode_utf8 lines_of words_of commands_from and_line read_words form_of load_form text_form cat_form sub_form rep_form search_form two_names_form one_name_form put_form new_and_known two_known two_numbers new_name known_name is_name place_of number_of encoding_of code_points_of code_point_of
 an_unknown_encoding = refl
 
 bytes_that_are_no_text : parse (0x61 ∷ 0xFF ∷ []) ≡ Err (Malformed 1)

@@ -16,12 +16,46 @@ pub enum Command {
     Text {
         name: u32,
     },
+    /// The name gets the graphemes of the text of `a` and that of `b` in one.
+    Cat {
+        name: u32,
+        a: u32,
+        b: u32,
+    },
     /// The name gets at most `count` graphemes of `a` from place `start` on, counted from 0.
     Sub {
         name: u32,
         a: u32,
         start: u64,
         count: u64,
+    },
+    /// The name gets the graphemes of `count` times the text of `a` in one.
+    Rep {
+        name: u32,
+        a: u32,
+        count: u64,
+    },
+    /// Prints the first place from `at` on at which the graphemes of `b` stand in `a`.
+    Find {
+        a: u32,
+        b: u32,
+        at: u64,
+    },
+    /// Prints the last place up to `at` at which the graphemes of `b` stand in `a`.
+    Rfind {
+        a: u32,
+        b: u32,
+        at: u64,
+    },
+    /// Prints whether `a` and `b` are the same.
+    Eq {
+        a: u32,
+        b: u32,
+    },
+    /// Prints how `a` and `b` are ordered.
+    Cmp {
+        a: u32,
+        b: u32,
     },
     /// Prints how many graphemes `a` has.
     Len {

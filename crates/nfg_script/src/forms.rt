@@ -2,9 +2,12 @@
 ghost use Rattle.std.specs.Prelude.{◌≡◌, ◌<◌, ◌^◌, length, IfOk, OnOk, None};
 ghost use Rattle.nfg_script.specs.Answer.{Gives, texts, line_read, DefinesNew};
 ghost use Rattle.nfg_script.specs.Words.{place_of};
-ghost use Rattle.nfg_script.specs.Line.{load_form as load_read, text_form as text_read, sub_form as sub_read};
-ghost use Rattle.nfg_script.specs.Line.{new_and_known as both_names, two_numbers as both_numbers};
-ghost use Rattle.nfg_script.specs.Line.{one_name as one_name_read, put_form as put_read, form_of, command_alone};
+ghost use Rattle.nfg_script.specs.Line.{new_and_known as both_names, two_known as both_known};
+ghost use Rattle.nfg_script.specs.Line.{two_numbers as both_numbers, command_alone, form_of};
+ghost use Rattle.nfg_script.specs.Line.{load_form as load_read, text_form as text_read, cat_form as cat_read};
+ghost use Rattle.nfg_script.specs.Line.{sub_form as sub_read, rep_form as rep_read, put_form as put_read};
+ghost use Rattle.nfg_script.specs.Line.{search_form, two_names_form, one_name_form};
+ghost use Rattle.nfg_script.specs.declared.command.Command.TheVariants.{Find, Rfind, Eq, Cmp, Len, Show, Shape};
 
 use crate::code_points::read_code_points;
 use crate::line_read::{LineError, LineRead};
@@ -12,6 +15,37 @@ use crate::names::{Names, read_known_name, read_new_name};
 use crate::word::{read_encoding, read_number};
 use crate::{Command, Reason};
 use std::alloc::Global;
+
+/// The number of the name that a line defines, and that of one that it uses.
+#[tactic(auto, unfolding(crate::specs::Line::new_and_known))]
+fn new_and_known(names: &Names, name: &str, operand: &str) -> Result<(u32, u32), Reason>
+    requires { length names.now < 2 ^ 32 }
+    ensures numbers { result ≡ both_names names.now name.now operand.now }
+    ensures new { OnOk result (place_of names.now name.now ≡ None) }
+{
+    let n = read_new_name(names, name)?;
+    let a = read_known_name(names, operand)?;
+    Ok((n, a))
+}
+
+/// The numbers of two names that a line uses.
+#[tactic(auto, unfolding(crate::specs::Line::two_known))]
+fn two_known(names: &Names, first: &str, second: &str) -> Result<(u32, u32), Reason>
+    ensures { result ≡ both_known names.now first.now second.now }
+{
+    let a = read_known_name(names, first)?;
+    let b = read_known_name(names, second)?;
+    Ok((a, b))
+}
+
+#[tactic(auto, unfolding(crate::specs::Line::two_numbers))]
+fn two_numbers(first: &str, second: &str) -> Result<(u64, u64), Reason>
+    ensures { result ≡ both_numbers first.now second.now }
+{
+    let m = read_number(first)?;
+    let n = read_number(second)?;
+    Ok((m, n))
+}
 
 /// `load N ENC PATH`
 #[tactic(auto, unfolding(crate::specs::Line::load_form))]
@@ -53,25 +87,24 @@ fn text_form<'a>(alloc: Global, names: &Names, words: &[&'a str]) -> Result<Line
     })
 }
 
-/// The number of the name that a line defines, and that of one that it uses.
-#[tactic(auto, unfolding(crate::specs::Line::new_and_known))]
-fn new_and_known(names: &Names, name: &str, operand: &str) -> Result<(u32, u32), Reason>
+/// `cat N A B`
+#[tactic(auto, unfolding(crate::specs::Line::cat_form))]
+fn cat_form<'a>(alloc: Global, names: &Names, words: &[&'a str]) -> Result<LineRead<'a>, LineError>
     requires { length names.now < 2 ^ 32 }
-    ensures numbers { result ≡ both_names names.now name.now operand.now }
-    ensures new { OnOk result (place_of names.now name.now ≡ None) }
+    ensures read { Gives line_read result (cat_read names.now (texts words.now)) }
+    ensures new { IfOk result (λ read. DefinesNew names.now read) }
 {
-    let n = read_new_name(names, name)?;
-    let a = read_known_name(names, operand)?;
-    Ok((n, a))
-}
-
-#[tactic(auto, unfolding(crate::specs::Line::two_numbers))]
-fn two_numbers(first: &str, second: &str) -> Result<(u64, u64), Reason>
-    ensures { result ≡ both_numbers first.now second.now }
-{
-    let m = read_number(first)?;
-    let n = read_number(second)?;
-    Ok((m, n))
+    if words.len() != 3 {
+        return Err(LineError::Refused(Reason::WordCount));
+    }
+    let name = read_new_name(names, words[0])?;
+    let (a, b) = two_known(names, words[1], words[2])?;
+    Ok(LineRead {
+        command: Command::Cat { name, a, b },
+        path: "",
+        codes: Vec::new(alloc),
+        defines: Some(words[0]),
+    })
 }
 
 /// `sub N A START LEN`
@@ -99,6 +132,26 @@ fn sub_form<'a>(alloc: Global, names: &Names, words: &[&'a str]) -> Result<LineR
     })
 }
 
+/// `rep N A COUNT`
+#[tactic(auto, unfolding(crate::specs::Line::rep_form))]
+fn rep_form<'a>(alloc: Global, names: &Names, words: &[&'a str]) -> Result<LineRead<'a>, LineError>
+    requires { length names.now < 2 ^ 32 }
+    ensures read { Gives line_read result (rep_read names.now (texts words.now)) }
+    ensures new { IfOk result (λ read. DefinesNew names.now read) }
+{
+    if words.len() != 3 {
+        return Err(LineError::Refused(Reason::WordCount));
+    }
+    let (name, a) = new_and_known(names, words[0], words[1])?;
+    let count = read_number(words[2])?;
+    Ok(LineRead {
+        command: Command::Rep { name, a, count },
+        path: "",
+        codes: Vec::new(alloc),
+        defines: Some(words[0]),
+    })
+}
+
 /// A line that gives no more than its command.
 fn alone<'a>(alloc: Global, command: Command) -> LineRead<'a>
     ensures { line_read result ≡ command_alone command }
@@ -111,15 +164,97 @@ fn alone<'a>(alloc: Global, command: Command) -> LineRead<'a>
     }
 }
 
-/// The one name that a form uses.
-#[tactic(auto, unfolding(crate::specs::Line::one_name))]
-fn one_name(names: &Names, words: &[&str]) -> Result<u32, Reason>
-    ensures { result ≡ one_name_read names.now (texts words.now) }
+/// `find A B FROM`
+#[tactic(auto, unfolding(crate::specs::Line::search_form))]
+fn find_form<'a>(alloc: Global, names: &Names, words: &[&str]) -> Result<LineRead<'a>, LineError>
+    ensures read { Gives line_read result (search_form Find names.now (texts words.now)) }
+    ensures new { IfOk result (λ read. DefinesNew names.now read) }
+{
+    if words.len() != 3 {
+        return Err(LineError::Refused(Reason::WordCount));
+    }
+    let (a, b) = two_known(names, words[0], words[1])?;
+    let at = read_number(words[2])?;
+    Ok(alone(alloc, Command::Find { a, b, at }))
+}
+
+/// `rfind A B FROM`
+#[tactic(auto, unfolding(crate::specs::Line::search_form))]
+fn rfind_form<'a>(alloc: Global, names: &Names, words: &[&str]) -> Result<LineRead<'a>, LineError>
+    ensures read { Gives line_read result (search_form Rfind names.now (texts words.now)) }
+    ensures new { IfOk result (λ read. DefinesNew names.now read) }
+{
+    if words.len() != 3 {
+        return Err(LineError::Refused(Reason::WordCount));
+    }
+    let (a, b) = two_known(names, words[0], words[1])?;
+    let at = read_number(words[2])?;
+    Ok(alone(alloc, Command::Rfind { a, b, at }))
+}
+
+/// `eq A B`
+#[tactic(auto, unfolding(crate::specs::Line::two_names_form))]
+fn eq_form<'a>(alloc: Global, names: &Names, words: &[&str]) -> Result<LineRead<'a>, LineError>
+    ensures read { Gives line_read result (two_names_form Eq names.now (texts words.now)) }
+    ensures new { IfOk result (λ read. DefinesNew names.now read) }
+{
+    if words.len() != 2 {
+        return Err(LineError::Refused(Reason::WordCount));
+    }
+    let (a, b) = two_known(names, words[0], words[1])?;
+    Ok(alone(alloc, Command::Eq { a, b }))
+}
+
+/// `cmp A B`
+#[tactic(auto, unfolding(crate::specs::Line::two_names_form))]
+fn cmp_form<'a>(alloc: Global, names: &Names, words: &[&str]) -> Result<LineRead<'a>, LineError>
+    ensures read { Gives line_read result (two_names_form Cmp names.now (texts words.now)) }
+    ensures new { IfOk result (λ read. DefinesNew names.now read) }
+{
+    if words.len() != 2 {
+        return Err(LineError::Refused(Reason::WordCount));
+    }
+    let (a, b) = two_known(names, words[0], words[1])?;
+    Ok(alone(alloc, Command::Cmp { a, b }))
+}
+
+/// `len A`
+#[tactic(auto, unfolding(crate::specs::Line::one_name_form))]
+fn len_form<'a>(alloc: Global, names: &Names, words: &[&str]) -> Result<LineRead<'a>, LineError>
+    ensures read { Gives line_read result (one_name_form Len names.now (texts words.now)) }
+    ensures new { IfOk result (λ read. DefinesNew names.now read) }
 {
     if words.len() != 1 {
-        return Err(Reason::WordCount);
+        return Err(LineError::Refused(Reason::WordCount));
     }
-    read_known_name(names, words[0])
+    let a = read_known_name(names, words[0])?;
+    Ok(alone(alloc, Command::Len { a }))
+}
+
+/// `show A`
+#[tactic(auto, unfolding(crate::specs::Line::one_name_form))]
+fn show_form<'a>(alloc: Global, names: &Names, words: &[&str]) -> Result<LineRead<'a>, LineError>
+    ensures read { Gives line_read result (one_name_form Show names.now (texts words.now)) }
+    ensures new { IfOk result (λ read. DefinesNew names.now read) }
+{
+    if words.len() != 1 {
+        return Err(LineError::Refused(Reason::WordCount));
+    }
+    let a = read_known_name(names, words[0])?;
+    Ok(alone(alloc, Command::Show { a }))
+}
+
+/// `shape A`
+#[tactic(auto, unfolding(crate::specs::Line::one_name_form))]
+fn shape_form<'a>(alloc: Global, names: &Names, words: &[&str]) -> Result<LineRead<'a>, LineError>
+    ensures read { Gives line_read result (one_name_form Shape names.now (texts words.now)) }
+    ensures new { IfOk result (λ read. DefinesNew names.now read) }
+{
+    if words.len() != 1 {
+        return Err(LineError::Refused(Reason::WordCount));
+    }
+    let a = read_known_name(names, words[0])?;
+    Ok(alone(alloc, Command::Shape { a }))
 }
 
 /// `put A ENC`
@@ -137,7 +272,7 @@ fn put_form<'a>(alloc: Global, names: &Names, words: &[&str]) -> Result<LineRead
 }
 
 /// What the words of a line give, of which the first names the form.
-#[tactic(auto, unfolding(crate::specs::Line::form_of, crate::specs::Line::one_name_form))]
+#[tactic(auto, unfolding(crate::specs::Line::form_of))]
 pub(crate) fn read_form<'a>(
     alloc: Global,
     names: &Names,
@@ -151,19 +286,16 @@ pub(crate) fn read_form<'a>(
     match first {
         "load" => load_form(alloc, names, words),
         "text" => text_form(alloc, names, words),
+        "cat" => cat_form(alloc, names, words),
         "sub" => sub_form(alloc, names, words),
-        "len" => {
-            let a = one_name(names, words)?;
-            Ok(alone(alloc, Command::Len { a }))
-        }
-        "show" => {
-            let a = one_name(names, words)?;
-            Ok(alone(alloc, Command::Show { a }))
-        }
-        "shape" => {
-            let a = one_name(names, words)?;
-            Ok(alone(alloc, Command::Shape { a }))
-        }
+        "rep" => rep_form(alloc, names, words),
+        "find" => find_form(alloc, names, words),
+        "rfind" => rfind_form(alloc, names, words),
+        "eq" => eq_form(alloc, names, words),
+        "cmp" => cmp_form(alloc, names, words),
+        "len" => len_form(alloc, names, words),
+        "show" => show_form(alloc, names, words),
+        "shape" => shape_form(alloc, names, words),
         "put" => put_form(alloc, names, words),
         _ => Err(LineError::Refused(Reason::BadCommand)),
     }

@@ -48,6 +48,90 @@ fn the_first_refused_line_is_told(rt: HostRuntime) -> Result<(), Fail> {
     Ok(())
 }
 
+#[test]
+fn each_reason_has_its_least_script(rt: HostRuntime) -> Result<(), Fail> {
+    let alloc = rt.alloc();
+    let rows: [(&[u8], ScriptError); 10] = [
+        (b"x", line(1, Reason::BadCommand)),
+        (b"eq", line(1, Reason::WordCount)),
+        (b"len -", line(1, Reason::BadName)),
+        (b"text a\ntext a", line(2, Reason::NameTaken)),
+        (b"len a", line(1, Reason::UnknownName)),
+        (b"text a\nrep b a x", line(2, Reason::BadNumber)),
+        (b"text a\nfind a a x", line(2, Reason::BadNumber)),
+        (b"load a x f", line(1, Reason::BadEncoding)),
+        (b"text a x", line(1, Reason::BadCodePoint)),
+        (b"\xFF", ScriptError::Malformed { at: 0 }),
+    ];
+    for (bytes, error) in rows {
+        assert_eq!(rt; refusal(alloc, bytes)?, Some(error));
+    }
+    Ok(())
+}
+
+/// Lines with two faults, of which the first name that is defined is `a`.
+#[test]
+fn the_first_reason_of_a_line_is_told(rt: HostRuntime) -> Result<(), Fail> {
+    let alloc = rt.alloc();
+    let rows: [(&[u8], Reason); 20] = [
+        (b"frob", Reason::BadCommand),
+        (b"Cat - x +", Reason::BadCommand),
+        (b"cat -", Reason::WordCount),
+        (b"rep a a", Reason::WordCount),
+        (b"eq x", Reason::WordCount),
+        (b"rfind a a + +", Reason::WordCount),
+        (b"load b x f f", Reason::WordCount),
+        (b"cat a - a", Reason::NameTaken),
+        (b"cat - x x", Reason::BadName),
+        (b"cat b x -", Reason::UnknownName),
+        (b"rep - a x", Reason::BadName),
+        (b"load - x f", Reason::BadName),
+        (b"text - x", Reason::BadName),
+        (b"cat a x x", Reason::NameTaken),
+        (b"rep a a x", Reason::NameTaken),
+        (b"load a x f", Reason::NameTaken),
+        (b"text a x", Reason::NameTaken),
+        (b"find a x +", Reason::UnknownName),
+        (b"find a a +", Reason::BadNumber),
+        (b"put x y", Reason::UnknownName),
+    ];
+    for (text, reason) in rows {
+        let mut bytes = Vec::new(alloc);
+        bytes.extend_from_slice(b"text a\n")?;
+        bytes.extend_from_slice(text)?;
+        assert_eq!(rt; refusal(alloc, bytes.as_slice())?, Some(line(2, reason)));
+    }
+    Ok(())
+}
+
+/// A line for each reason, after one that defines `a`.
+static FAULTS: [(&[u8], Reason); 8] = [
+    (b"x", Reason::BadCommand),
+    (b"len", Reason::WordCount),
+    (b"len -", Reason::BadName),
+    (b"text a", Reason::NameTaken),
+    (b"len b", Reason::UnknownName),
+    (b"rep b a x", Reason::BadNumber),
+    (b"put a x", Reason::BadEncoding),
+    (b"text b x", Reason::BadCodePoint),
+];
+
+#[test]
+fn of_two_refused_lines_the_first_is_told(rt: HostRuntime) -> Result<(), Fail> {
+    let alloc = rt.alloc();
+    for (first, reason) in FAULTS {
+        for (second, _) in FAULTS {
+            let mut bytes = Vec::new(alloc);
+            bytes.extend_from_slice(b"text a\n")?;
+            bytes.extend_from_slice(first)?;
+            bytes.push(b'\n')?;
+            bytes.extend_from_slice(second)?;
+            assert_eq!(rt; refusal(alloc, bytes.as_slice())?, Some(line(2, reason)));
+        }
+    }
+    Ok(())
+}
+
 /// The path of a load.
 fn path_of(script: &Script, k: usize) -> Option<&str> {
     if k >= script.len() {
@@ -151,6 +235,34 @@ fn limits_are_reached(rt: HostRuntime) -> Result<(), Fail> {
 fn is_send<T: Send>(_: &T) {}
 
 fn is_sync<T: Sync>(_: &T) {}
+
+#[test]
+fn the_commands_of_two_strings_are_read(rt: HostRuntime) -> Result<(), Fail> {
+    let bytes = b"text a\ncat b a a\nrep c b 3\nfind c a 1\nrfind a c 2\neq b c\ncmp c b";
+    let script = parse(rt.alloc(), bytes)?;
+    let rows = [
+        Command::Text { name: 0 },
+        Command::Cat {
+            name: 1,
+            a: 0,
+            b: 0,
+        },
+        Command::Rep {
+            name: 2,
+            a: 1,
+            count: 3,
+        },
+        Command::Find { a: 2, b: 0, at: 1 },
+        Command::Rfind { a: 0, b: 2, at: 2 },
+        Command::Eq { a: 1, b: 2 },
+        Command::Cmp { a: 2, b: 1 },
+    ];
+    assert!(rt; script.len() == 7);
+    for k in 0..7 {
+        assert_eq!(rt; script.command(k), rows[k]);
+    }
+    Ok(())
+}
 
 #[test]
 fn scripts_and_errors_go_between_threads(rt: HostRuntime) -> Result<(), Fail> {

@@ -1,5 +1,7 @@
 -- What a command prints is what the step prints.
-use Rattle.std.proofs.Common.{◌≡◌, ℕ, zero, suc, ◌+◌, ◌<◌, ◌≤◌, IfSome, arith, nat_lt, List, [], ◌∷◌, ◌++◌, length, drop, slice_get, Option, Some, None, Result, Ok, Err, refl, sym, ap, ◌∙◌, subst}
+use Rattle.std.proofs.Common.{◌≡◌, ◌↔◌, Bool, true, false, IsTrue, bytes_eq, ℕ, zero, suc, ◌+◌, ◌<◌, ◌≤◌, IfSome, arith, nat_lt, List, [], ◌∷◌, ◌++◌, length, drop, slice_get, Option, Some, None, Result, Ok, Err, refl, sym, ap, ◌∙◌, subst}
+use Rattle.std.proofs.lemmas.Bool.{false_from_ne_true}
+use Rattle.std.proofs.lemmas.Slice.Eq.{bytes_eq-Decides}
 use Rattle.nfg_syn.specs.OwnTexts.{OwnTexts, IsOwnPass, seen_of}
 use Rattle.nfg_syn.specs.Seen.{IsFirst}
 use Rattle.nfg_work.proofs.Tables.{slice_get-same}
@@ -13,6 +15,8 @@ use Rattle.nfg_work.specs.declared.stop.Stop.{Stop}
 use Rattle.nfg_work.specs.declared.stop.Stop.TheVariants.{Refused, OutOfMemory}
 use Rattle.nfg_work.specs.Evaluation.{State, print, put, step, evaluate, evaluate_from, first_state}
 use Rattle.nfg_work.specs.Holding.{AreInUse, AreStringsOf, Holds, Follows, Prints, Puts}
+use Rattle.nfg_work.specs.Laws.{AllInNfg}
+use Rattle.nfg_work.proofs.InNfg.{first_in_nfg, next_in_nfg}
 
 -- the output of the state and that of the evaluation are one
 over_same : (places : ℕ) (reads : List FileRead) (old : Evaluation) (state : State) (bytes : List ℕ) → Holds places reads old state
@@ -43,6 +47,11 @@ printed_follows places reads old pass output (Err (Refused cause)) state bytes h
     (step_is ∙ ap (λ c. Err c) (sym p.0), p.2)
 printed_follows places reads old pass output (Err OutOfMemory) state bytes h own same p = tt
 
+-- a test that holds just where two texts are one
+pub same_truth : (holds : Bool) (t u : List ℕ) → IsTrue holds ↔ (t ≡ u) → holds ≡ bytes_eq t u
+same_truth true t u just = sym ((bytes_eq-Decides t u).1 (just.0 refl))
+same_truth false t u just = sym (false_from_ne_true (bytes_eq t u) (λ same. let never = just.1 ((bytes_eq-Decides t u).0 same) in cc))
+
 -- what is put
 pub put_follows : (places : ℕ) (reads : List FileRead) (old : Evaluation) (pass : OwnTexts) (output : List ℕ) (result : Result (Unit {0}) Stop) (state : State) (bytes : List ℕ)
     (first : Option ℕ) → Holds places reads old state → IsOwnPass places pass → pass.texts ≡ old.pass.texts → Puts first old.output output result bytes
@@ -72,12 +81,13 @@ Holds-first places reads held size own texts strings spent output next = record 
 pub record IsRunning (places : ℕ) (script : List NumberedCommand) (reads : List FileRead) (held : Evaluation) (k : ℕ) : Type 0 where
   pub state : State
   pub holds : Holds places reads held state
+  pub in_nfg : AllInNfg state
   pub rest : evaluate_from places state (drop k script) ≡ evaluate script reads places
 
 pub running_first : (places : ℕ) (script : List NumberedCommand) (reads : List FileRead) (held : Evaluation) → Holds places reads held (first_state reads)
     → IsRunning places script reads held 0
 unfolding evaluate
-running_first places script reads held h = record { state = first_state reads; holds = h; rest = refl }
+running_first places script reads held h = record { state = first_state reads; holds = h; in_nfg = first_in_nfg reads; rest = refl }
 
 drop-at : (script : List NumberedCommand) (k : ℕ) (numbered : NumberedCommand) → slice_get script k ≡ Some numbered → drop k script ≡ numbered ∷ drop (k + 1) script
 drop-at [] k numbered e = cc
@@ -110,7 +120,7 @@ running_next places script reads held new k numbered r at f =
     ap (evaluate_from places r.state) (sym (drop-at script k numbered at)) ∙ r.rest in
     let here : evaluate_from places r.state (numbered ∷ drop (k + 1) script) ≡ evaluate_from places f.0 (drop (k + 1) script) =
     ap (after places numbered (drop (k + 1) script) r.state.output) f.1 in
-    record { state = f.0; holds = f.2; rest = sym here ∙ whole }
+    record { state = f.0; holds = f.2; in_nfg = next_in_nfg places r.state f.0 numbered r.in_nfg f.1; rest = sym here ∙ whole }
 
 -- the refused command ends it
 pub running_refused : (places : ℕ) (script : List NumberedCommand) (reads : List FileRead) (held new : Evaluation) (k : ℕ) (numbered : NumberedCommand) (cause : Cause) (line : ℕ)

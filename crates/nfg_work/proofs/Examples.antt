@@ -5,10 +5,12 @@ use Rattle.nfg_decode.specs.declared.encoding.Encoding.TheVariants.{Utf8, Latin1
 use Rattle.nfg_script.specs.declared.command.Command.TheVariants.{Load}
 use Rattle.nfg_script.specs.Script.{NumberedCommand}
 use Rattle.nfg_work.specs.declared.output.Cause.TheVariants.{CannotRead, OutOfRange, AllTooLong, ClusterTooLong, TableFull, OutputTooLong}
-use Rattle.nfg_work.specs.declared.output.FileRead.TheVariants.{Failed}
-use Rattle.nfg_work.specs.Values.{no_value, is_narrow}
+use Rattle.nfg_work.specs.declared.output.FileRead.TheVariants.{Bytes, Failed}
+use Rattle.nfg_seam.specs.ClusterPieces.{is_narrow}
+use Rattle.nfg_work.specs.Values.{no_value}
 use Rattle.nfg_work.specs.Printing.{shown, shape}
 use Rattle.nfg_work.specs.Evaluation.{output_limit, takes_place, first_lacking, first_state, define, define_part, with_places, with_clusters, print, evaluate}
+use Rattle.nfg_work.specs.Laws.{has_failed, HasEntries}
 
 -- CR LF takes no place
 line_end_takes_none : takes_place (0xD ∷ 0xA ∷ []) ≡ false
@@ -87,3 +89,13 @@ load_alone = record { line = 3; command = Load 0 Utf8; path = codes "f"; codes =
 unread : evaluate load_alone (Failed ∷ []) 16 ≡ record { bytes = []; refused = Some (record { line = 3; cause = CannotRead }) }
 unfolding evaluate load_alone
 unread = refl
+
+a_failed_entry : has_failed (Bytes (0x61 ∷ []) ∷ Failed ∷ []) ≡ true
+a_failed_entry = refl
+
+no_failed_entry : has_failed (Bytes (0x61 ∷ []) ∷ []) ≡ false
+no_failed_entry = refl
+
+-- behind a failed entry none is wanted
+entries_to_the_failed : HasEntries (codes "f" ∷ codes "g" ∷ []) (Failed ∷ [])
+entries_to_the_failed = tt

@@ -1,5 +1,5 @@
 -- Numbers in hexadecimal, digit by digit.
-use Rattle.std.proofs.Common.{◌≡◌, ℕ, zero, suc, ◌*◌, ◌/◌, ◌%◌, ◌+◌, ◌-◌, length, drop, slice_set, ◌^◌, ◌<◌, ◌≤◌, ◌==◌, Bool, true, false, List, [], ◌∷◌, ◌++◌, if◌then◌else◌, refl, sym, ap, ◌∙◌, append_assoc, arith, lit≤}
+use Rattle.std.proofs.Common.{◌≡◌, ℕ, zero, suc, ◌*◌, ◌/◌, ◌%◌, ◌+◌, ◌-◌, length, drop, take, slice_set, ◌^◌, ◌<◌, ◌≤◌, ◌==◌, Bool, true, false, List, [], ◌∷◌, ◌++◌, if◌then◌else◌, refl, sym, ap, ◌∙◌, append_assoc, arith, lit≤}
 use Rattle.std.proofs.lemmas.Bool.{eq-eqb, ne_eqb}
 use Rattle.std.specs.Fmt.{digits, digits_onto, digit_glyph}
 use native.Mathlib.Nat.{pow-suc}
@@ -107,3 +107,56 @@ drop-end [] zero e = refl
 drop-end [] (suc n) e = refl
 drop-end (x ∷ xs) zero e = absurd (omega (arith, e))
 drop-end (x ∷ xs) (suc n) e = drop-end xs n (omega (arith, e))
+
+-- numbers of two, three and four digits
+digits-two : (n : ℕ) → 16 ≤ n → n < 256 → digits 16 true n ≡ digit_glyph true (n / 16) ∷ digit_glyph true (n % 16) ∷ []
+digits-two n large small =
+    let wide : n < 2 ^ 32 = omega (arith, small) in
+    digits-last n large wide ∙ ap (λ v. v ++ digit_glyph true (n % 16) ∷ []) (digits-one (n / 16) (omega (arith, small)))
+
+digits-three : (n : ℕ) → 256 ≤ n → n < 4096
+    → digits 16 true n ≡ digit_glyph true (n / 256) ∷ digit_glyph true (n / 16 % 16) ∷ digit_glyph true (n % 16) ∷ []
+digits-three n large small =
+    let wide : n < 2 ^ 32 = omega (arith, small) in
+    let first : n / 16 / 16 ≡ n / 256 = omega arith in
+    digits-last n (omega (arith, large)) wide
+    ∙ ap (λ v. v ++ digit_glyph true (n % 16) ∷ []) (digits-two (n / 16) (omega (arith, large)) (omega (arith, small)))
+    ∙ ap (λ d. digit_glyph true d ∷ digit_glyph true (n / 16 % 16) ∷ digit_glyph true (n % 16) ∷ []) first
+
+digits-four : (n : ℕ) → 4096 ≤ n → n < 65536
+    → digits 16 true n ≡ digit_glyph true (n / 4096) ∷ digit_glyph true (n / 256 % 16) ∷ digit_glyph true (n / 16 % 16) ∷ digit_glyph true (n % 16) ∷ []
+digits-four n large small =
+    let wide : n < 2 ^ 32 = omega (arith, small) in
+    let first : n / 16 / 256 ≡ n / 4096 = omega arith in
+    let second : n / 16 / 16 ≡ n / 256 = omega arith in
+    digits-last n (omega (arith, large)) wide
+    ∙ ap (λ v. v ++ digit_glyph true (n % 16) ∷ []) (digits-three (n / 16) (omega (arith, large)) (omega (arith, small)))
+    ∙ (λ i. digit_glyph true (first i) ∷ digit_glyph true (second i % 16) ∷ digit_glyph true (n / 16 % 16) ∷ digit_glyph true (n % 16) ∷ [])
+
+-- so many digits stand at the front of a buffer
+pub put_one : (n a : ℕ) (out : List ℕ) → 9 ≤ length out → n < 16 → a ≡ digit_glyph true n → take 1 (slice_set out 0 a) ≡ digits 16 true n
+put_one n a [] room small first = absurd (omega (arith, room))
+put_one n a (x ∷ out) room small first = ap (λ d. d ∷ []) first ∙ sym (digits-one n small)
+
+pub put_two : (n a b : ℕ) (out : List ℕ) → 9 ≤ length out → 16 ≤ n → n < 256 → a ≡ digit_glyph true (n / 16) → b ≡ digit_glyph true (n % 16)
+    → take 2 (slice_set (slice_set out 0 a) 1 b) ≡ digits 16 true n
+put_two n a b [] room large small first second = absurd (omega (arith, room))
+put_two n a b (x ∷ []) room large small first second = absurd (omega (arith, room))
+put_two n a b (x ∷ y ∷ out) room large small first second = (λ i. first i ∷ second i ∷ []) ∙ sym (digits-two n large small)
+
+pub put_three : (n a b c : ℕ) (out : List ℕ) → 9 ≤ length out → 256 ≤ n → n < 4096 → a ≡ digit_glyph true (n / 256) → b ≡ digit_glyph true (n / 16 % 16)
+    → c ≡ digit_glyph true (n % 16) → take 3 (slice_set (slice_set (slice_set out 0 a) 1 b) 2 c) ≡ digits 16 true n
+put_three n a b c [] room large small first second third = absurd (omega (arith, room))
+put_three n a b c (x ∷ []) room large small first second third = absurd (omega (arith, room))
+put_three n a b c (x ∷ y ∷ []) room large small first second third = absurd (omega (arith, room))
+put_three n a b c (x ∷ y ∷ z ∷ out) room large small first second third = (λ i. first i ∷ second i ∷ third i ∷ []) ∙ sym (digits-three n large small)
+
+pub put_four : (n a b c d : ℕ) (out : List ℕ) → 9 ≤ length out → 4096 ≤ n → n < 65536 → a ≡ digit_glyph true (n / 4096) → b ≡ digit_glyph true (n / 256 % 16)
+    → c ≡ digit_glyph true (n / 16 % 16) → d ≡ digit_glyph true (n % 16)
+    → take 4 (slice_set (slice_set (slice_set (slice_set out 0 a) 1 b) 2 c) 3 d) ≡ digits 16 true n
+put_four n a b c d [] room large small first second third fourth = absurd (omega (arith, room))
+put_four n a b c d (x ∷ []) room large small first second third fourth = absurd (omega (arith, room))
+put_four n a b c d (x ∷ y ∷ []) room large small first second third fourth = absurd (omega (arith, room))
+put_four n a b c d (x ∷ y ∷ z ∷ []) room large small first second third fourth = absurd (omega (arith, room))
+put_four n a b c d (x ∷ y ∷ z ∷ w ∷ out) room large small first second third fourth =
+    (λ i. first i ∷ second i ∷ third i ∷ fourth i ∷ []) ∙ sym (digits-four n large small)

@@ -1,21 +1,23 @@
 -- Each value is a list of graphemes.
-use Rattle.std.proofs.Common.{◌≡◌, ℕ, zero, suc, ◌+◌, Bool, true, false, nat_lt, List, [], ◌∷◌, ◌++◌, length, take, drop, slice_index_or, Option, Some, None, Result, Ok, Err, IfOk, if◌then◌else◌, refl, sym, ap, ◌∙◌, subst, take-append-drop}
+use Rattle.std.proofs.Common.{◌≡◌, ℕ, zero, suc, ◌+◌, ◌*◌, Bool, true, false, nat_lt, List, [], ◌∷◌, ◌++◌, length, take, drop, slice_index_or, Option, Some, None, Result, Ok, Err, IfOk, if◌then◌else◌, refl, sym, subst, take-append-drop}
+use Rattle.std.specs.List.{repeat}
 use Rattle.nfg_text.specs.Graphemes.{graphemes_of, IsInNfg}
+use Rattle.nfg_text.specs.Text.{text_of}
 use Rattle.nfg_text.proofs.Proved.{graphemes_are_in_nfg, parts_are_in_nfg}
 use Rattle.nfg_decode.specs.declared.encoding.Encoding.{Encoding}
 use Rattle.nfg_decode.specs.Decoded.{Decoded}
 use Rattle.nfg_decode.specs.Encoding.{decode}
-use Rattle.nfg_stream.specs.Load.{first_long}
+use Rattle.nfg_syn.specs.Learned.{first_long}
 use Rattle.nfg_script.specs.declared.command.Command.{Command}
-use Rattle.nfg_script.specs.declared.command.Command.TheVariants.{Load, Text, Sub, Len, Show, Shape, Put}
+use Rattle.nfg_script.specs.declared.command.Command.TheVariants.{Load, Text, Cat, Sub, Rep, Find, Rfind, Eq, Cmp, Len, Show, Shape, Put}
 use Rattle.nfg_script.specs.Script.{NumberedCommand}
 use Rattle.nfg_work.specs.declared.output.Cause.{Cause}
-use Rattle.nfg_work.specs.declared.output.Cause.TheVariants.{OutOfRange, AllTooLong, TableFull, OutputTooLong}
+use Rattle.nfg_work.specs.declared.output.Cause.TheVariants.{OutOfRange, StringTooLong, AllTooLong, TableFull, OutputTooLong}
 use Rattle.nfg_work.specs.declared.output.FileRead.{FileRead}
 use Rattle.nfg_work.specs.declared.output.FileRead.TheVariants.{Bytes, TooLong, Failed}
 use Rattle.nfg_work.specs.declared.output.Output.{Output}
-use Rattle.nfg_work.specs.Values.{Value, no_value, flat, part}
-use Rattle.nfg_work.specs.Evaluation.{State, cost_limit, output_limit, value_of, used_with, define, with_clusters, define_new, define_decoded, define_read, load, define_part, print, put, step, evaluate_from, evaluate, first_state}
+use Rattle.nfg_work.specs.Values.{Value, no_value, flat, part, joined, repeated}
+use Rattle.nfg_work.specs.Evaluation.{State, cost_limit, output_limit, value_of, used_with, define, with_clusters, define_value, define_new, define_joined, join_limit, define_decoded, define_read, load, define_part, print, put, step, evaluate_from, evaluate, first_state}
 use Rattle.nfg_work.specs.Laws.{state_after, AllInNfg, EvaluationGoesOn, ValuesAreInNfg, PartIsInNfg}
 
 nothing_is_in_nfg : IsInNfg []
@@ -50,10 +52,18 @@ with_clusters_keeps places used first (Err cause) all = tt
 with_clusters_keeps places used (Some at) (Ok state) all = tt
 with_clusters_keeps places used None (Ok state) all = unless _ TableFull (Ok (record state { used = used })) all
 
+define_value_keeps : (places : ℕ) (state : State) (cost : ℕ) (value : Value) → AllInNfg state → IsInNfg value.clusters
+    → IfOk (define_value places state cost value) AllInNfg
+define_value_keeps places state cost value all is =
+    with_clusters_keeps places (used_with state value.clusters) (first_long value.clusters) (define state cost value) (define_keeps state cost value all is)
+
 define_new_keeps : (places : ℕ) (state : State) (cost : ℕ) (t : List ℕ) → AllInNfg state → IfOk (define_new places state cost (graphemes_of t)) AllInNfg
-define_new_keeps places state cost t all =
-    let made = graphemes_of t in
-    with_clusters_keeps places (used_with state made) (first_long made) (define state cost (flat made)) (define_keeps state cost (flat made) all (graphemes_are_in_nfg t))
+define_new_keeps places state cost t all = define_value_keeps places state cost (flat (graphemes_of t)) all (graphemes_are_in_nfg t)
+
+define_joined_keeps : (places : ℕ) (state : State) (count : ℕ) (value : Value) → AllInNfg state → IsInNfg value.clusters
+    → IfOk (define_joined places state count value) AllInNfg
+define_joined_keeps places state count value all is =
+    unless (nat_lt join_limit count) StringTooLong (define_value places state count value) (define_value_keeps places state count value all is)
 
 define_decoded_keeps : (places : ℕ) (state : State) (cost : ℕ) (decoded : Decoded) → AllInNfg state → IfOk (define_decoded places state cost decoded) AllInNfg
 define_decoded_keeps places state cost (Ok t) all = define_new_keeps places state cost t all
@@ -84,7 +94,18 @@ put_keeps state bytes None all = print_keeps state bytes all
 step_keeps : (places : ℕ) (state : State) (numbered : NumberedCommand) (command : Command) → AllInNfg state → IfOk (step places state numbered command) AllInNfg
 step_keeps places state numbered (Load name enc) all = load_keeps places state enc state.reads all
 step_keeps places state numbered (Text name) all = define_new_keeps places state (length numbered.codes) numbered.codes all
+step_keeps places state numbered (Cat name a b) all =
+    let left = value_of state a in
+    let right = value_of state b in
+    define_joined_keeps places state (length left.clusters + length right.clusters) (joined left right) all (graphemes_are_in_nfg (text_of left.clusters ++ text_of right.clusters))
 step_keeps places state numbered (Sub name a start count) all = define_part_keeps state (value_of state a) start count all (all a)
+step_keeps places state numbered (Rep name a count) all =
+    let value = value_of state a in
+    define_joined_keeps places state (length value.clusters * count) (repeated value count) all (graphemes_are_in_nfg (repeat count (text_of value.clusters)))
+step_keeps places state numbered (Find a b at) all = print_keeps state _ all
+step_keeps places state numbered (Rfind a b at) all = print_keeps state _ all
+step_keeps places state numbered (Eq a b) all = print_keeps state _ all
+step_keeps places state numbered (Cmp a b) all = print_keeps state _ all
 step_keeps places state numbered (Len a) all = print_keeps state _ all
 step_keeps places state numbered (Show a) all = print_keeps state _ all
 step_keeps places state numbered (Shape a) all = print_keeps state _ all
@@ -107,8 +128,18 @@ lines_keep places state [] all = all
 lines_keep places state (numbered ∷ lines) all =
     rest_keeps places lines (step places state numbered numbered.command) (λ next. lines_keep places next lines) (step_keeps places state numbered numbered.command all)
 
+-- before the first line there is none
+pub first_in_nfg : (reads : List FileRead) → AllInNfg (first_state reads)
+first_in_nfg reads name = nothing_is_in_nfg
+
+-- a command that is done keeps it so
+pub next_in_nfg : (places : ℕ) (state next : State) (numbered : NumberedCommand) → AllInNfg state
+    → step places state numbered numbered.command ≡ Ok next → AllInNfg next
+next_in_nfg places state next numbered all done =
+    subst (λ result. IfOk result AllInNfg) done (step_keeps places state numbered numbered.command all)
+
 pub values_are_in_nfg : ValuesAreInNfg
-values_are_in_nfg places reads lines = lines_keep places (first_state reads) lines (λ name. nothing_is_in_nfg)
+values_are_in_nfg places reads lines = lines_keep places (first_state reads) lines (first_in_nfg reads)
 
 -- what a script gives from a line on
 abbrev output_of : (places : ℕ) → NumberedCommand → List NumberedCommand → (output : List ℕ) → Result State Cause → Output

@@ -12,7 +12,7 @@ use Rattle.nfg_syn.specs.KnownLaws.{same_text}
 use Rattle.nfg_syn.specs.OwnTexts.{AreTextsOf, known_of}
 use Rattle.nfg_syn.specs.Represents.{Represents, spelling}
 use Rattle.nfg_syn.specs.RepresentsLaws.{spelling-one}
-use Rattle.nfg_stream.specs.Load.{HasLearned, several, is_several}
+use Rattle.nfg_syn.specs.Learned.{HasLearned, several, is_several}
 use Rattle.nfg_work.specs.Evaluation.{takes_place}
 use Rattle.nfg_work.specs.Holding.{AreInUse}
 use Rattle.nfg_work.proofs.Members.{both_ways, or-right, is_member-at, is_member-place, is_member-front, is_member-back, is_member-kept, IsDistinct-from_places, IsDistinct-more, length-le_distinct, length-distinct}
@@ -47,7 +47,7 @@ learned_back : (texts : List (List ℕ)) (old new : Texts) → HasLearned old te
     → (old k ≡ Some t) ⊎ (is_member bytes_eq texts t ≡ true)
 learned_back [] old new same k t e = inl (sym (same k) ∙ e)
 learned_back (x ∷ texts) old new learned k t e =
-    learned_tail old x texts k t learned.1 learned.0 learned.2 (learned_back texts learned.1 new learned.3 k t e)
+    learned_tail old x texts k t learned.1 learned.0 learned.2 (learned_back texts learned.1 new learned.4 k t e)
 
 -- a cluster that needs a number and takes a place
 kept_place : (clusters : List (List ℕ)) (t : List ℕ) → is_member bytes_eq (several clusters) t ≡ true → takes_place t ≡ true

@@ -1,5 +1,5 @@
 -- The first cluster with a code point that an encoding lacks.
-use Rattle.std.proofs.Common.{◌≡◌, ℕ, zero, suc, ◌+◌, ◌<◌, ◌≤◌, Bool, true, false, ◌&&◌, List, [], ◌∷◌, ◌++◌, length, take, drop, slice_get, slice_index_or, Option, Some, None, Result, Err, ℤ, pos, negsuc, refl, sym, ap, ◌∙◌, subst, cond, arith}
+use Rattle.std.proofs.Common.{◌≡◌, ℕ, zero, suc, ◌+◌, ◌<◌, ◌≤◌, Bool, true, false, ◌&&◌, List, [], ◌∷◌, ◌++◌, length, take, drop, slice_get, slice_index_or, Some, None, ℤ, pos, negsuc, refl, sym, ap, ◌∙◌, cond, arith}
 use Rattle.std.proofs.lemmas.Bool.{and_parts, and_from}
 use Rattle.std.specs.List.{list_all, position_from, concat}
 use Rattle.std.specs.Str.{all_scalars}
@@ -7,21 +7,15 @@ use lib.Utf8.{scalar as is_scalar}
 use Rattle.std.proofs.lemmas.Iterator.Adapters.{position_from-zero}
 use Rattle.std.specs.Option.{option_map}
 use Rattle.std.proofs.lemmas.List.{take-append-drop}
-use Rattle.std.proofs.lemmas.List.Concat.{concat_is}
 use Rattle.nfg_strand.proofs.Positions.{found-append, absent-append, position_from-add}
 use Rattle.nfg_text.specs.Text.{IsText, text_of}
 use Rattle.nfg_decode.specs.declared.encoding.Encoding.{Encoding}
-use Rattle.nfg_decode.specs.Encoding.{encode}
 use Rattle.nfg_syn.specs.OwnTexts.{OwnTexts, IsOwnPass, known_of}
 use Rattle.nfg_syn.specs.OwnTextsLaws.{numbers_of}
 use Rattle.nfg_syn.specs.Represents.{Represents, spelling}
 use Rattle.nfg_syn.specs.RepresentsLaws.{spelling-one}
-use Rattle.nfg_work.specs.declared.output.Cause.TheVariants.{NotEncodable}
-use Rattle.nfg_work.specs.declared.stop.Stop.{Stop}
-use Rattle.nfg_work.specs.declared.stop.Stop.TheVariants.{Refused, OutOfMemory}
 use Rattle.nfg_work.specs.Evaluation.{first_lacking, is_lacking}
-use Rattle.nfg_work.specs.Holding.{Prints, Puts, Gathers}
-use Rattle.nfg_work.proofs.Joined.{mapped-next, mapped-more, take-push, take-more, slice_get-read}
+use Rattle.nfg_work.proofs.Joined.{take-push, take-more, slice_get-read}
 use Rattle.nfg_work.proofs.Tables.{length-take_le}
 
 all-append : (p : ℕ → Bool) (xs : List ℕ) (x : ℕ) → list_all p xs ≡ true → p x ≡ true → list_all p (xs ++ x ∷ []) ≡ true
@@ -108,46 +102,3 @@ spelled_text size pass (n ∷ ns) (c ∷ cs) own are = scalars-append c (concat 
     one : (size : ℕ) (pass : OwnTexts) (n : ℤ) (c : List ℕ) → IsOwnPass size pass → spelling (known_of pass.texts) n ≡ Some c → all_scalars c ≡ true
     one size pass (pos p) c own e = let is = spelling-one (known_of pass.texts) p c e in ap all_scalars is.1 ∙ and_from (is_scalar p) true is.0 refl
     one size pass (negsuc m) c own e = (numbers_of size pass.texts own.lawful m c e).1.text
-
--- the code points of one more cluster
-pub gathered-next : (clusters : List (List ℕ)) (i : ℕ) (x start old new : List ℕ) → slice_get clusters i ≡ Some x
-    → old ≡ start ++ text_of (take i clusters) → new ≡ old ++ x → new ≡ start ++ text_of (take (i + 1) clusters)
-gathered-next clusters i x start old new at old_is new_is =
-    mapped-next (λ c. c) clusters i x start old new at (old_is ∙ ap (λ v. start ++ v) (concat_is (take i clusters))) new_is
-    ∙ ap (λ v. start ++ v) (sym (concat_is (take (i + 1) clusters)))
-
--- those of n more
-pub gathered-more : (clusters : List (List ℕ)) (i n : ℕ) (start old new : List ℕ)
-    → old ≡ start ++ text_of (take i clusters) → new ≡ old ++ text_of (take n (drop i clusters)) → new ≡ start ++ text_of (take (i + n) clusters)
-gathered-more clusters i n start old new old_is new_is =
-    mapped-more (λ c. c) clusters i n start old new (old_is ∙ ap (λ v. start ++ v) (concat_is (take i clusters))) (new_is ∙ ap (λ v. old ++ v) (concat_is (take n (drop i clusters))))
-    ∙ ap (λ v. start ++ v) (sym (concat_is (take (i + n) clusters)))
-
--- a refusal in a part is one of the whole
-pub gathered-refused : (e : Encoding) (clusters : List (List ℕ)) (i n : ℕ) (old new start : List ℕ) (stop : Stop) → first_lacking e (take i clusters) ≡ None → i ≤ length clusters
-    → Gathers e (take n (drop i clusters)) i old new (Err stop) → Gathers e clusters 0 start new (Err stop)
-gathered-refused e clusters i n old new start (Refused cause) before inside part =
-    let sum : i + part.0 ≡ 0 + (i + part.0) = omega arith in
-    (i + part.0, some-more e clusters i n part.0 before inside part.1, part.2 ∙ ap (λ k. NotEncodable k) sum)
-gathered-refused e clusters i n old new start OutOfMemory before inside part = tt
-
--- what was gathered is written
-pub puts-written : (first : Option ℕ) (e : Encoding) (old new codes text : List ℕ) (result : Result (Unit {0}) Stop) → first ≡ None → codes ≡ text
-    → Prints old new result (encode e codes) → Puts first old new result (encode e text)
-puts-written first e old new codes text result none same prints =
-    let P : List ℕ → Type 0 = λ v. Prints old new result (encode e v) in
-    let Q : Option ℕ → Type 0 = λ f. Puts f old new result (encode e text) in
-    subst Q (sym none) (subst P same prints)
-
--- what could not be gathered is refused
-pub puts-refused : (e : Encoding) (clusters : List (List ℕ)) (old none codes bytes : List ℕ) (stop : Stop) → Gathers e clusters 0 none codes (Err stop)
-    → Puts (first_lacking e clusters) old old (Err stop) bytes
-puts-refused e clusters old none codes bytes (Refused cause) gathered =
-    let Q : Option ℕ → Type 0 = λ f. Puts f old old (Err (Refused cause)) bytes in
-    let sum : 0 + gathered.0 ≡ gathered.0 = omega arith in
-    subst Q (sym gathered.1) (gathered.2 ∙ ap (λ k. NotEncodable k) sum, refl)
-puts-refused e clusters old none codes bytes OutOfMemory gathered = by (first_lacking e clusters)
-  where
-    by : (f : Option ℕ) → Puts f old old (Err OutOfMemory) bytes
-    by None = tt
-    by (Some k) = tt

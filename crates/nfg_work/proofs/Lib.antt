@@ -9,6 +9,10 @@ pub mod Hexadecimals
 pub mod Joined
 pub mod Tables
 pub mod Printed
+pub mod Shown
 pub mod Lacking
-pub mod Answered
+pub mod Encoded
 pub mod InNfg
+pub mod Answered
+pub mod JoinedValues
+pub mod FailedReads

@@ -10,7 +10,7 @@ use Rattle.nfg_syn.specs.Represents.{Represents, spelling}
 use Rattle.nfg_syn.specs.RepresentsLaws.{spelling-one, Represents-length}
 use Rattle.nfg_strand.specs.declared.piece.Piece.{Piece}
 use Rattle.nfg_strand.specs.Pieces as pieces
-use Rattle.nfg_work.specs.Values.{is_line_end, is_ascii, is_narrow, flat_piece, at_most_64}
+use Rattle.nfg_seam.specs.ClusterPieces.{is_line_end, is_ascii, is_narrow, flat_piece, at_most_64}
 
 narrow_one : (size : ℕ) (texts : List (List ℕ)) → AreTextsOf size texts → (n : ℤ) (c : List ℕ) → spelling (known_of texts) n ≡ Some c
     → is_narrow_grapheme n ≡ (is_line_end c || is_ascii c)

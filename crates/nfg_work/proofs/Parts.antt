@@ -4,7 +4,7 @@ use Rattle.std.proofs.lemmas.Bool.{lt-ltb, le-ltb, cases_lt}
 use Rattle.nfg_decode.specs.declared.encoding.Encoding.{Encoding}
 use Rattle.nfg_decode.specs.Encoding.{decode}
 use Rattle.nfg_syn.specs.OwnTexts.{AreTextsOf, known_of}
-use Rattle.nfg_syn.specs.Represents.{Represents}
+use Rattle.nfg_syn.specs.Represents.{Represents, AreGraphemes, AreKnown}
 use Rattle.nfg_syn.specs.RepresentsLaws.{Represents-length, Represents-take, Represents-drop}
 use Rattle.nfg_strand.specs.Value.{Rope}
 use Rattle.nfg_strand.specs.Pieces as pieces
@@ -18,7 +18,7 @@ use Rattle.nfg_work.specs.declared.stop.Stop.{Stop}
 use Rattle.nfg_work.specs.declared.stop.Stop.TheVariants.{Refused, OutOfMemory}
 use Rattle.nfg_work.specs.Values.{Value, no_value, part}
 use Rattle.nfg_work.specs.Evaluation.{State, value_of, load, define_decoded, define_part}
-use Rattle.nfg_work.specs.Holding.{IsStringOf, Holds, Follows, IsDefined}
+use Rattle.nfg_work.specs.Holding.{IsStringOf, Holds, IsHeld, Follows, IsDefined}
 use Rattle.nfg_work.proofs.Narrow.{at_most_same}
 use Rattle.nfg_work.proofs.Strings.{AreStringsOf-at, AreStringsOf-push}
 
@@ -60,6 +60,21 @@ pub named : (places : ℕ) (reads : List FileRead) (held : Evaluation) (state : 
 named places reads held state name nothing string h none no_pieces is =
     let empty : IsStringOf held.pass.texts nothing no_value = record { represents = rw none tt; pieces = no_pieces } in
     rw is (AreStringsOf-at held.pass.texts held.strings.items state.values name nothing no_value h.strings empty)
+
+-- and for a list of graphemes
+pub named_graphemes : (places : ℕ) (reads : List FileRead) (held : Evaluation) (name : ℕ) (nothing string : Rope) → IsHeld places reads held
+    → nothing.graphemes ≡ [] → nothing.pieces ≡ [] → string ≡ slice_index_or held.strings.items name nothing
+    → AreGraphemes (known_of held.pass.texts) string.graphemes
+named_graphemes places reads held name nothing string is none no_pieces at =
+    let state = is.0 in
+    ((value_of state name).clusters, (named places reads held state name nothing string is.1 none no_pieces at).represents, is.2 name)
+
+-- so each of its numbers is known
+pub named_known : (places : ℕ) (reads : List FileRead) (held : Evaluation) (name : ℕ) (nothing string : Rope) → IsHeld places reads held
+    → nothing.graphemes ≡ [] → nothing.pieces ≡ [] → string ≡ slice_index_or held.strings.items name nothing
+    → AreKnown (known_of held.pass.texts) string.graphemes
+named_known places reads held name nothing string is none no_pieces at =
+    let all = named_graphemes places reads held name nothing string is none no_pieces at in (all.0, all.1)
 
 -- a start past the end
 pub part_outside : (texts : List (List ℕ)) (state : State) (string : Rope) (value : Value) (start count : ℕ) → IsStringOf texts string value

@@ -1,24 +1,27 @@
 -- Scripts are evaluated over plain lists of clusters, a command at a time (this project's own).
-use Rattle.std.specs.Prelude.{ℕ, ◌+◌, ◌≤◌, Bool, not, ◌&&◌, List, [], ◌∷◌, ◌++◌, filter, length, bytes_eq, nat_lt, position, slice_index_or, All, Option, Some, None, Result, Ok, Err, if◌then◌else◌}
+use Rattle.std.specs.Prelude.{ℕ, ◌+◌, ◌*◌, ◌≤◌, Bool, not, ◌&&◌, List, [], ◌∷◌, ◌++◌, filter, length, bytes_eq, nat_lt, position, slice_index_or, All, Option, Some, None, Result, Ok, Err, if◌then◌else◌}
 use Rattle.std.specs.List.{list_all}
 use Rattle.std.specs.Set.{distinct_count}
 use Rattle.std.specs.Fmt.{decimal}
+use Rattle.nfg_text.specs.Forms.{nfd}
 use Rattle.nfg_text.specs.Graphemes.{graphemes_of}
+use Rattle.nfg_text.specs.Operations.{first_place, last_place, text_order}
 use Rattle.nfg_text.specs.Text.{text_of}
 use Rattle.nfg_decode.specs.declared.encoding.Encoding.{Encoding}
 use Rattle.nfg_decode.specs.Decoded.{Decoded}
 use Rattle.nfg_decode.specs.Encoding.{decode, encode, has_code}
-use Rattle.nfg_stream.specs.Load.{first_long}
+use Rattle.nfg_syn.specs.Learned.{first_long}
+use Rattle.nfg_seam.specs.ClusterPieces.{is_line_end}
 use Rattle.nfg_script.specs.declared.command.Command.{Command}
-use Rattle.nfg_script.specs.declared.command.Command.TheVariants.{Load, Text, Sub, Len, Show, Shape, Put}
+use Rattle.nfg_script.specs.declared.command.Command.TheVariants.{Load, Text, Cat, Sub, Rep, Find, Rfind, Eq, Cmp, Len, Show, Shape, Put}
 use Rattle.nfg_script.specs.Script.{NumberedCommand}
 use Rattle.nfg_work.specs.declared.output.Cause.{Cause}
-use Rattle.nfg_work.specs.declared.output.Cause.TheVariants.{CannotRead, FileTooLong, Malformed, OutOfRange, NotEncodable, AllTooLong, ClusterTooLong, TableFull, OutputTooLong}
+use Rattle.nfg_work.specs.declared.output.Cause.TheVariants.{CannotRead, FileTooLong, Malformed, OutOfRange, NotEncodable, StringTooLong, AllTooLong, ClusterTooLong, TableFull, OutputTooLong}
 use Rattle.nfg_work.specs.declared.output.FileRead.{FileRead}
 use Rattle.nfg_work.specs.declared.output.FileRead.TheVariants.{Bytes, TooLong, Failed}
 use Rattle.nfg_work.specs.declared.output.Output.{Output}
-use Rattle.nfg_work.specs.Values.{Value, no_value, flat, part, is_line_end}
-use Rattle.nfg_work.specs.Printing.{shown, shape, line_of}
+use Rattle.nfg_work.specs.Values.{Value, no_value, flat, part, joined, repeated}
+use Rattle.nfg_work.specs.Printing.{shown, shape, place_text, truth_text, order_text, line_of}
 
 -- what the evaluation keeps between two commands
 pub record State : Type 0 where
@@ -69,10 +72,31 @@ with_clusters places used first (Err cause) = Err cause
 with_clusters places used (Some at) (Ok state) = Err (ClusterTooLong at)
 with_clusters places used None (Ok state) = with_places places used state
 
+-- the next name gets a value with new clusters, at this cost
+abbrev pub define_value : (places : ℕ) → State → (cost : ℕ) → Value → Result State Cause
+define_value places state cost value =
+    with_clusters places (used_with state value.clusters) (first_long value.clusters) (define state cost value)
+
 -- the next name gets these clusters, at this cost
 abbrev pub define_new : (places : ℕ) → State → (cost : ℕ) → List (List ℕ) → Result State Cause
-define_new places state cost clusters =
-    with_clusters places (used_with state clusters) (first_long clusters) (define state cost (flat clusters))
+define_new places state cost clusters = define_value places state cost (flat clusters)
+
+-- the most graphemes that a line joins
+abbrev pub join_limit : ℕ
+join_limit = 67108864
+
+-- the next name gets what so many graphemes give that are joined, at the cost of one each
+abbrev pub define_joined : (places : ℕ) → State → (count : ℕ) → Value → Result State Cause
+define_joined places state count value =
+    if nat_lt join_limit count then Err StringTooLong else define_value places state count value
+
+-- the next name gets two values, joined
+abbrev pub define_cat : (places : ℕ) → State → Value → Value → Result State Cause
+define_cat places state a b = define_joined places state (length a.clusters + length b.clusters) (joined a b)
+
+-- the next name gets a value, repeated
+abbrev pub define_rep : (places : ℕ) → State → Value → (count : ℕ) → Result State Cause
+define_rep places state a count = define_joined places state (length a.clusters * count) (repeated a count)
 
 -- the next name gets the text that bytes decode to, at this cost
 abbrev pub define_decoded : (places : ℕ) → State → (cost : ℕ) → Decoded → Result State Cause
@@ -115,14 +139,32 @@ abbrev pub put : State → List ℕ → Option ℕ → Result State Cause
 put state bytes (Some at) = Err (NotEncodable at)
 put state bytes None = print state bytes
 
+-- the texts of both lists of clusters are canonically equivalent: they have one NFD
+abbrev pub are_equivalent : (a b : List (List ℕ)) → Bool
+are_equivalent a b = bytes_eq (nfd (text_of a)) (nfd (text_of b))
+
+-- the output grows by a line
+abbrev pub print_line : State → List ℕ → Result State Cause
+print_line state text = print state (line_of text)
+
 -- one command: the state behind it, or the cause of its refusal
 abbrev pub step : (places : ℕ) → State → NumberedCommand → Command → Result State Cause
 step places state numbered (Load name enc) = load places state enc state.reads
 step places state numbered (Text name) = define_new places state (length numbered.codes) (graphemes_of numbered.codes)
+step places state numbered (Cat name a b) = define_cat places state (value_of state a) (value_of state b)
 step places state numbered (Sub name a start count) = define_part state (value_of state a) start count
-step places state numbered (Len a) = print state (line_of (decimal (length (value_of state a).clusters)))
-step places state numbered (Show a) = print state (line_of (shown (value_of state a).clusters))
-step places state numbered (Shape a) = print state (line_of (shape (value_of state a).pieces))
+step places state numbered (Rep name a count) = define_rep places state (value_of state a) count
+step places state numbered (Find a b at) =
+    print_line state (place_text (first_place (value_of state a).clusters (value_of state b).clusters at))
+step places state numbered (Rfind a b at) =
+    print_line state (place_text (last_place (value_of state a).clusters (value_of state b).clusters at))
+step places state numbered (Eq a b) =
+    print_line state (truth_text (are_equivalent (value_of state a).clusters (value_of state b).clusters))
+step places state numbered (Cmp a b) =
+    print_line state (order_text (text_order (value_of state a).clusters (value_of state b).clusters))
+step places state numbered (Len a) = print_line state (decimal (length (value_of state a).clusters))
+step places state numbered (Show a) = print_line state (shown (value_of state a).clusters)
+step places state numbered (Shape a) = print_line state (shape (value_of state a).pieces)
 step places state numbered (Put a enc) =
     put state (encode enc (text_of (value_of state a).clusters)) (first_lacking enc (value_of state a).clusters)
 

@@ -1,22 +1,28 @@
 -- What an evaluation holds of a state: strings over the numbers of a table (this project's own).
-use Rattle.std.specs.Prelude.{◌≡◌, ℕ, ◌+◌, ◌<◌, Bool, true, false, nat_lt, List, [], ◌∷◌, ◌++◌, length, take, drop, bytes_eq, Option, Some, None, Result, Ok, Err}
+use Rattle.std.specs.Prelude.{◌≡◌, ℕ, ◌+◌, ◌<◌, Bool, true, false, nat_lt, List, [], ◌∷◌, ◌++◌, length, take, drop, bytes_eq, Option, Some, None, Result, Ok, Err, if◌then◌else◌}
 use Rattle.std.specs.List.{AllZip}
 use Rattle.std.specs.Set.{is_member}
-use Rattle.nfg_text.specs.Text.{text_of}
 use Rattle.nfg_decode.specs.declared.encoding.Encoding.{Encoding}
+use Rattle.nfg_decode.specs.declared.encoding.Encoding.TheVariants.{Utf8, Utf16, Utf16Le, Utf16Be, Latin1}
+use Rattle.nfg_decode.specs.Encoding.{encode}
+use Rattle.nfg_encode.specs.Refusal.{first_lacked}
+use Rattle.std.specs.declared.alloc.AllocError.{AllocError}
 use Rattle.nfg_syn.specs.OwnTexts.{IsOwnPass, known_of}
 use Rattle.nfg_syn.specs.Represents.{Represents}
 use Rattle.nfg_strand.specs.Value.{Rope}
+use Rattle.nfg_seam.specs.declared.error.SeamError.{SeamError}
+use Rattle.nfg_seam.specs.declared.error.SeamError.TheVariants.{TooLong, ClusterLong as JoinedLong, RowFull as JoinedFull, NoPortion as NoJoinedPortion, OutOfMemory as NoJoinedMemory}
 use Rattle.nfg_stream.specs.declared.error.LoadError.{LoadError}
 use Rattle.nfg_stream.specs.declared.error.LoadError.TheVariants.{Malformed, ClusterLong, RowFull, NoPortion, OutOfMemory as NoMemory}
 use Rattle.nfg_work.specs.declared.evaluation.Evaluation.{Evaluation}
 use Rattle.nfg_work.specs.declared.output.Cause.{Cause}
-use Rattle.nfg_work.specs.declared.output.Cause.TheVariants.{AllTooLong, NotEncodable, OutputTooLong, ClusterTooLong, TableFull, Malformed as TextMalformed}
+use Rattle.nfg_work.specs.declared.output.Cause.TheVariants.{StringTooLong, AllTooLong, NotEncodable, OutputTooLong, ClusterTooLong, TableFull, Malformed as TextMalformed}
 use Rattle.nfg_work.specs.declared.output.FileRead.{FileRead}
 use Rattle.nfg_work.specs.declared.stop.Stop.{Stop}
 use Rattle.nfg_work.specs.declared.stop.Stop.TheVariants.{Refused, OutOfMemory}
 use Rattle.nfg_work.specs.Values.{Value}
-use Rattle.nfg_work.specs.Evaluation.{State, output_limit, first_lacking}
+use Rattle.nfg_work.specs.Evaluation.{State, cost_limit, join_limit, output_limit}
+use Rattle.nfg_work.specs.Laws.{AllInNfg}
 
 -- the string stands for the value's clusters, in its pieces
 pub record IsStringOf (texts : List (List ℕ)) (string : Rope) (value : Value) : Type 0 where
@@ -41,9 +47,9 @@ pub record Holds (places : ℕ) (reads : List FileRead) (held : Evaluation) (sta
   pub output : held.output ≡ state.output
   pub left : drop held.next_read reads ≡ state.reads
 
--- it holds some state
+-- it holds some state, in which each value is a list of graphemes
 abbrev pub IsHeld : (places : ℕ) → List FileRead → Evaluation → Type 0
-IsHeld places reads held = (state : State) × Holds places reads held state
+IsHeld places reads held = (state : State) × Holds places reads held state × AllInNfg state
 
 -- A command does what the step does: the next state is held, or the line is refused for the same
 -- cause and the output stays. Want of memory may come in place of either.
@@ -71,6 +77,20 @@ IsStopOf RowFull stop = stop ≡ Refused TableFull
 IsStopOf NoPortion stop = stop ≡ Refused TableFull
 IsStopOf NoMemory stop = stop ≡ OutOfMemory
 
+-- what a refusal of a seam means for the command
+abbrev pub IsSeamStop : SeamError → Stop → Type 0
+IsSeamStop TooLong stop = stop ≡ Refused StringTooLong
+IsSeamStop (JoinedLong at) stop = stop ≡ Refused (ClusterTooLong at)
+IsSeamStop JoinedFull stop = stop ≡ Refused TableFull
+IsSeamStop NoJoinedPortion stop = stop ≡ Refused TableFull
+IsSeamStop NoJoinedMemory stop = stop ≡ OutOfMemory
+
+-- why so many graphemes are not joined, where so much is spent: they are too many, or they cost too much
+abbrev pub join_refusal : (spent count : ℕ) → Option Cause
+join_refusal spent count =
+    if nat_lt join_limit count then Some StringTooLong
+    else (if nat_lt cost_limit (spent + count) then Some AllTooLong else None)
+
 -- the same for a load that may cost too much: malformed bytes come before the cost, and the cost before the rest
 abbrev pub IsStopAfter : (over : Bool) → LoadError → Stop → Type 0
 IsStopAfter over (Malformed at) stop = stop ≡ Refused (TextMalformed at)
@@ -93,12 +113,26 @@ pub record IsRefusedAt (had : ℕ) (old new : List ℕ) (stop : Stop) : Type 0 w
   pub over : output_limit < length old
   pub front : new ≡ take had old
 
--- the code points of clusters are added, unless the encoding lacks one; the first of them is the grapheme at `at`
-abbrev pub Gathers : Encoding → (clusters : List (List ℕ)) → (at : ℕ) → (old new : List ℕ) → Result (Unit {0}) Stop → Type 0
-Gathers e clusters at old new (Ok done) = (first_lacking e clusters ≡ None) × (new ≡ old ++ text_of clusters)
-Gathers e clusters at old new (Err (Refused cause)) =
-    (k : ℕ) × (first_lacking e clusters ≡ Some k) × (cause ≡ NotEncodable (at + k))
-Gathers e clusters at old new (Err OutOfMemory) = Unit {0}
+-- the encoding of a part of a text, before which the mark stands already
+abbrev pub without_mark : Encoding → Encoding
+without_mark Utf8 = Utf8
+without_mark Utf16 = Utf16Be
+without_mark Utf16Le = Utf16Le
+without_mark Utf16Be = Utf16Be
+without_mark Latin1 = Latin1
+
+-- The bytes of a text are added. Or more bytes than before may stand, and the encoding lacks a code point or the output
+-- would be too long.
+abbrev pub Writes : Encoding → (text old new : List ℕ) → Result Bool AllocError → Type 0
+Writes e text old new (Ok true) = (first_lacked e text ≡ None) × (new ≡ old ++ encode e text)
+Writes e text old new (Ok false) =
+    (take (length old) new ≡ old) × (first_lacked e text ≡ None → output_limit < length (old ++ encode e text))
+Writes e text old new (Err error) = Unit {0}
+
+-- Why a string is not put: a cluster isn't encodable, or else the output would be too long.
+abbrev pub IsRefusalOf : Option ℕ → Stop → Type 0
+IsRefusalOf None stop = stop ≡ Refused OutputTooLong
+IsRefusalOf (Some at) stop = stop ≡ Refused (NotEncodable at)
 
 -- the bytes are added to the output, unless a cluster isn't encodable or it would be too long
 abbrev pub Puts : Option ℕ → (old new : List ℕ) → Result (Unit {0}) Stop → (bytes : List ℕ) → Type 0

@@ -1,10 +1,12 @@
 -- The laws of the evaluation: at every point of a script, each value is a list of graphemes (this project's own).
-use Rattle.std.specs.Prelude.{◌≡◌, ℕ, List, [], ◌∷◌, ◌++◌, Result, Ok, Err, IfOk}
+use Rattle.std.specs.Prelude.{◌≡◌, ℕ, Bool, true, false, List, [], ◌∷◌, ◌++◌, IfSome, Result, Ok, Err, IfOk}
 use Rattle.nfg_text.specs.Graphemes.{IsInNfg}
 use Rattle.nfg_text.specs.Operations.{part_of}
-use Rattle.nfg_script.specs.Script.{NumberedCommand}
+use Rattle.nfg_script.specs.Script.{NumberedCommand, load_paths}
 use Rattle.nfg_work.specs.declared.output.Cause.{Cause}
+use Rattle.nfg_work.specs.declared.output.Cause.TheVariants.{CannotRead}
 use Rattle.nfg_work.specs.declared.output.FileRead.{FileRead}
+use Rattle.nfg_work.specs.declared.output.FileRead.TheVariants.{Bytes, TooLong, Failed}
 use Rattle.nfg_work.specs.Evaluation.{State, value_of, step, first_state, evaluate_from, evaluate}
 
 -- the state after some lines, or the cause for which the first of them that is refused is
@@ -35,3 +37,25 @@ ValuesAreInNfg =
 -- a part of a list of graphemes is a list of graphemes
 abbrev pub PartIsInNfg : Type 0
 PartIsInNfg = (list : List (List ℕ)) (start count : ℕ) → IsInNfg list → IsInNfg (part_of list start count)
+
+-- one entry of what was read has failed
+abbrev pub has_failed : List FileRead → Bool
+has_failed [] = false
+has_failed (Failed ∷ reads) = true
+has_failed (TooLong ∷ reads) = has_failed reads
+has_failed (Bytes bytes ∷ reads) = has_failed reads
+
+-- there is an entry for each of these paths, in order, up to the first that failed or is too long
+abbrev pub HasEntries : List (List ℕ) → List FileRead → Type 0
+HasEntries [] reads = Unit {0}
+HasEntries (path ∷ paths) [] = ⊥
+HasEntries (path ∷ paths) (Failed ∷ reads) = Unit {0}
+HasEntries (path ∷ paths) (TooLong ∷ reads) = Unit {0}
+HasEntries (path ∷ paths) (Bytes bytes ∷ reads) = HasEntries paths reads
+
+-- where the loads of a script have their entries, a line is refused as one that can't be read only where an entry has failed
+abbrev pub FailedReadIsCause : Type 0
+FailedReadIsCause =
+    (places : ℕ) (reads : List FileRead) (script : List NumberedCommand) → HasEntries (load_paths script) reads
+    → IfSome (evaluate script reads places).refused
+    (λ refused. refused.cause ≡ CannotRead → has_failed reads ≡ true)

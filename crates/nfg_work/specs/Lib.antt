@@ -4,3 +4,6 @@ pub mod Evaluation
 pub mod Holding
 pub mod Laws
 pub mod Separated
+pub use Rattle.nfg_seam.specs.ClusterPieces
+pub use Rattle.nfg_seam.specs.ConcatPieces
+pub use Rattle.nfg_syn.specs.Learned

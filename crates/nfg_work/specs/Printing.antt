@@ -1,7 +1,9 @@
 -- What the commands print (this project's own).
-use Rattle.std.specs.Prelude.{ℕ, true, List, [], ◌∷◌, ◌++◌, map, length, codes, if◌then◌else◌}
+use Rattle.std.specs.Prelude.{ℕ, Bool, true, List, [], ◌∷◌, ◌++◌, map, length, codes, Option, Some, None, if◌then◌else◌}
 use Rattle.std.specs.List.{join_with_byte, flat_map}
 use Rattle.std.specs.Fmt.{decimal, digits}
+use Rattle.std.specs.declared.cmp.Ordering.{Ordering}
+use Rattle.std.specs.declared.cmp.Ordering.TheVariants.{Less, Equal, Greater}
 use Rattle.nfg_strand.specs.declared.piece.Piece.{Piece}
 
 abbrev pub line_feed : ℕ
@@ -24,6 +26,21 @@ piece_text piece =
 -- the number of pieces, and then each of them
 abbrev pub shape : List Piece → List ℕ
 shape pieces = codes "strands " ++ decimal (length pieces) ++ flat_map piece_text pieces
+
+-- the place, or `none`
+abbrev pub place_text : Option ℕ → List ℕ
+place_text (Some place) = decimal place
+place_text None = codes "none"
+
+-- `true` or `false`
+abbrev pub truth_text : Bool → List ℕ
+truth_text holds = if holds then codes "true" else codes "false"
+
+-- `less`, `equal` or `greater`
+abbrev pub order_text : Ordering → List ℕ
+order_text Less = codes "less"
+order_text Equal = codes "equal"
+order_text Greater = codes "greater"
 
 -- the text as a line
 abbrev pub line_of : List ℕ → List ℕ

@@ -6,8 +6,10 @@ ghost use Rattle.nfg_work.specs.Evaluation.{State, step as step_of, evaluate, Ar
 ghost use Rattle.nfg_work.specs.Holding.{Holds, IsHeld, Follows};
 
 use crate::answering::{print_len, print_put, print_shape, print_show};
+use crate::comparing::{print_cmp, print_eq, print_find, print_rfind};
 use crate::defining::{load, sub, text};
 use crate::evaluation::Evaluation;
+use crate::joining::{cat, rep};
 use crate::stop::Stop;
 use crate::{FileRead, Output, RefusedLine};
 use nfg_script::{Command, Script};
@@ -35,12 +37,18 @@ fn step(
     match script.command(k) {
         Command::Load { name: _, enc } => load(alloc, held, enc, reads),
         Command::Text { name: _ } => text(alloc, held, script.codes(k)),
+        Command::Cat { name: _, a, b } => cat(alloc, held, a, b),
         Command::Sub {
             name: _,
             a,
             start,
             count,
         } => sub(alloc, held, a, start, count),
+        Command::Rep { name: _, a, count } => rep(alloc, held, a, count),
+        Command::Find { a, b, at } => print_find(alloc, held, a, b, at),
+        Command::Rfind { a, b, at } => print_rfind(alloc, held, a, b, at),
+        Command::Eq { a, b } => print_eq(alloc, held, a, b),
+        Command::Cmp { a, b } => print_cmp(alloc, held, a, b),
         Command::Len { a } => print_len(alloc, held, a),
         Command::Show { a } => print_show(alloc, held, a),
         Command::Shape { a } => print_shape(alloc, held, a),

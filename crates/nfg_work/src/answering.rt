@@ -4,8 +4,8 @@ ghost use Rattle.std.specs.Fmt.{decimal};
 ghost use Rattle.nfg_text.specs.Text.{text_of};
 ghost use Rattle.nfg_decode.specs.Encoding.{encode};
 ghost use Rattle.nfg_work.specs.declared.output.FileRead.{FileRead};
-ghost use Rattle.nfg_work.specs.Printing.{shown, shape as shape_of, line_of};
-ghost use Rattle.nfg_work.specs.Evaluation.{State, value_of, print, put as put_bytes, first_lacking};
+ghost use Rattle.nfg_work.specs.Printing.{shown, shape as shape_of};
+ghost use Rattle.nfg_work.specs.Evaluation.{State, value_of, print_line, put as put_bytes, first_lacking};
 ghost use Rattle.nfg_work.specs.Holding.{Holds, IsHeld, Follows};
 
 use crate::evaluation::Evaluation;
@@ -22,7 +22,7 @@ pub(crate) fn print_len(alloc: Global, held: &mut Evaluation, a: u32) -> Result<
     ensures { (places : ℕ) (reads : List FileRead) (state : State)
         → Holds places reads held.old state
         → Follows places reads held.old held.new result
-        (print state (line_of (decimal (length (value_of state a).clusters)))) }
+        (print_line state (decimal (length (value_of state a).clusters))) }
 {
     let nothing = NString::empty(alloc);
     let string = string_of_name(&held.strings, a, &nothing);
@@ -35,7 +35,7 @@ pub(crate) fn print_show(alloc: Global, held: &mut Evaluation, a: u32) -> Result
     ensures { (places : ℕ) (reads : List FileRead) (state : State)
         → Holds places reads held.old state
         → Follows places reads held.old held.new result
-        (print state (line_of (shown (value_of state a).clusters))) }
+        (print_line state (shown (value_of state a).clusters)) }
 {
     let nothing = NString::empty(alloc);
     let string = string_of_name(&held.strings, a, &nothing);
@@ -47,7 +47,7 @@ pub(crate) fn print_shape(alloc: Global, held: &mut Evaluation, a: u32) -> Resul
     ensures { (places : ℕ) (reads : List FileRead) (state : State)
         → Holds places reads held.old state
         → Follows places reads held.old held.new result
-        (print state (line_of (shape_of (value_of state a).pieces))) }
+        (print_line state (shape_of (value_of state a).pieces)) }
 {
     let nothing = NString::empty(alloc);
     let string = string_of_name(&held.strings, a, &nothing);

@@ -26,7 +26,7 @@ use std::alloc::Global;
 const COST_LIMIT: u64 = 1 << 29;
 
 /// Whether the strings cost too much with one more of this cost.
-fn is_over(spent: u64, cost: u64) -> bool
+pub(crate) fn is_over(spent: u64, cost: u64) -> bool
     ensures { result ≡ nat_lt 536870912 (spent + cost) }
 {
     if spent > COST_LIMIT {
@@ -66,7 +66,7 @@ fn stop_after(error: LoadError, over: bool) -> Stop
 }
 
 /// The next name gets the string, at this cost.
-fn define(held: &mut Evaluation, cost: u64, string: NString) -> Result<(), Stop>
+pub(crate) fn define(held: &mut Evaluation, cost: u64, string: NString) -> Result<(), Stop>
     requires { held.old.spent + cost ≤ 536870912 }
     ensures defined { OnOk result (IsDefined held.old held.new cost string) }
     ensures refused { IfErr result (λ stop. stop ≡ Stop.OutOfMemory) }

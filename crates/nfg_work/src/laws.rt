@@ -1,5 +1,5 @@
 //! The laws of the evaluation. Each function does nothing: its clauses are what holds.
-ghost use Rattle.nfg_work.specs.Laws.{EvaluationGoesOn, PartIsInNfg, ValuesAreInNfg};
+ghost use Rattle.nfg_work.specs.Laws.{EvaluationGoesOn, FailedReadIsCause, PartIsInNfg, ValuesAreInNfg};
 
 /// The value of every name, at every point of a script, is a list of graphemes.
 pub fn values_are_in_nfg()
@@ -11,4 +11,9 @@ pub fn values_are_in_nfg()
 /// A part of a list of graphemes is a list of graphemes.
 pub fn part_is_in_nfg()
     ensures { PartIsInNfg }
+{}
+
+/// A script ends with a line that can't be read only where a file that was read for it has failed.
+pub fn failed_read_is_cause()
+    ensures { FailedReadIsCause }
 {}

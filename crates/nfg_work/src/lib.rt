@@ -3,10 +3,14 @@
 
 mod alone;
 mod answering;
+mod comparing;
 mod defining;
 mod evaluation;
 mod gate;
 mod hexadecimal;
+#[cfg(test)]
+mod join_tests;
+mod joining;
 pub mod laws;
 mod naming;
 mod output;

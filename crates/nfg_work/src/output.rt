@@ -25,7 +25,10 @@ pub enum Cause {
     OutOfRange,
     /// The encoding lacks a code point. `at` is the first grapheme with such a one, counted from 0.
     NotEncodable { at: u64 },
-    /// All strings together cost over 2^29: bytes of a `load`, code points of a `text`, graphemes of a `sub`.
+    /// A `cat` or a `rep` joins over 2^26 graphemes.
+    StringTooLong,
+    /// All strings together cost over 2^29: bytes of a `load`, code points of a `text`, graphemes of a `sub` and
+    /// of what a `cat` or a `rep` joins.
     AllTooLong,
     /// A grapheme cluster has over 1,024 code points. `at` is the first such one, counted from 0.
     ClusterTooLong { at: u64 },

@@ -1,25 +1,29 @@
 //! The command `put`.
-ghost use Rattle.std.specs.Prelude.{◌≡◌, ◌≤◌, ◌+◌, ◌^◌, ℕ, List, length};
+ghost use Rattle.std.specs.Prelude.{◌≡◌, ◌<◌, ◌≤◌, ◌++◌, ℕ, List, None, IfSome, OnOk, false, length, slice_range, take};
 ghost use Rattle.nfg_text.specs.Text.{IsText, text_of};
-ghost use Rattle.nfg_decode.specs.Encoding.{encode, has_code};
+ghost use Rattle.nfg_decode.specs.Encoding.{encode, has_code, text_start};
 ghost use Rattle.nfg_syn.specs.OwnTexts.{IsOwnPass, known_of};
 ghost use Rattle.nfg_syn.specs.Represents.{Represents};
 ghost use Rattle.nfg_work.specs.Evaluation.{first_lacking, is_lacking};
-ghost use Rattle.nfg_work.specs.Holding.{Prints, Puts, Gathers, AreSpelled};
+ghost use Rattle.nfg_work.specs.Holding.{Puts, Writes, IsRefusalOf, AreSpelled, without_mark as unmarked};
 
 use crate::Cause;
-use crate::printing::within_limit;
+use crate::printing::{OUTPUT_LIMIT, within_limit};
 use crate::spelling::{CLUSTER_LIMIT, spell};
 use crate::stop::Stop;
 use nfg_decode::Encoding;
-use nfg_encode::encode_into;
+use nfg_encode::{EncodeError, encode_into};
+use nfg_ops::append_codes;
 use nfg_strand::NString;
 use nfg_syn::{OwnPass, OwnTable};
 use nfg_text::{ByteList, CodeList};
-use std::alloc::Global;
+use std::alloc::{AllocError, Global};
 
-/// So many graphemes are read at a time, into a buffer on the stack.
-const PART: usize = 256;
+/// So many graphemes are written at a time.
+const PART: u64 = 65_536;
+
+/// So many graphemes are looked at at a time, in a buffer on the stack.
+const LOOKED_AT: usize = 256;
 
 /// Whether the encoding has the code point.
 fn has(e: Encoding, code: u32) -> bool
@@ -28,6 +32,16 @@ fn has(e: Encoding, code: u32) -> bool
     match e {
         Encoding::Latin1 => code < 256,
         _ => true,
+    }
+}
+
+/// Whether the encoding may lack a code point.
+fn may_lack(e: Encoding) -> bool
+    ensures { (clusters : List (List ℕ)) → result ≡ false → first_lacking e clusters ≡ None }
+{
+    match e {
+        Encoding::Latin1 => true,
+        _ => false,
     }
 }
 
@@ -43,83 +57,131 @@ fn lacks(e: Encoding, cluster: &[u32]) -> bool
     false
 }
 
-/// Adds the code points of the clusters that the numbers stand for, the first of which is the
-/// grapheme at `at`.
-fn gather_part(
+/// The first of the clusters that the numbers stand for of which the encoding lacks a code point.
+fn lacking(
     table: &OwnTable,
     pass: &mut OwnPass,
     numbers: &[i32],
-    at: u64,
     e: Encoding,
     buffer: &mut [u32],
-    codes: &mut CodeList,
-) -> Result<(), Stop>
+) -> Option<usize>
     requires table { IsOwnPass table.now pass.old }
     requires known { (clusters : List (List ℕ))
         × Represents (known_of pass.old.texts) numbers.now clusters }
     requires room { length buffer.old ≡ 1024 }
-    requires limit { at + length numbers.now ≤ 2 ^ 40 }
     ensures table { IsOwnPass table.now pass.new }
     ensures texts { pass.new.texts ≡ pass.old.texts }
     ensures room { length buffer.new ≡ 1024 }
-    ensures gathered { (clusters : List (List ℕ))
+    ensures inside { IfSome result (λ k. k < length numbers.now) }
+    ensures lacking { (clusters : List (List ℕ))
         → Represents (known_of pass.old.texts) numbers.now clusters
-        → Gathers e clusters at codes.old codes.new result }
+        → result ≡ first_lacking e clusters }
 {
-    'gathering: for i in 0..numbers.len() {
+    'looking: for i in 0..numbers.len() {
         let len = spell(table, pass, numbers[i], buffer);
         if lacks(e, &buffer[..len]) {
-            return Err(Stop::Refused(Cause::NotEncodable { at: at + i as u64 }));
+            return Some(i);
         }
-        codes.append(&buffer[..len])?;
     }
-    Ok(())
+    None
 }
 
-/// Adds the code points of the string, where the encoding has them.
-fn gather(
+/// Why the string is not put, where the encoding lacks no code point of the graphemes before `start`.
+fn refusal(table: &OwnTable, pass: &mut OwnPass, string: &NString, e: Encoding, start: u64) -> Stop
+    requires table { IsOwnPass table.now pass.old }
+    requires known { AreSpelled pass.old.texts string.now }
+    requires inside { start ≤ length string.now.graphemes }
+    ensures table { IsOwnPass table.now pass.new }
+    ensures texts { pass.new.texts ≡ pass.old.texts }
+    ensures refusal { (clusters : List (List ℕ))
+        → Represents (known_of pass.old.texts) string.now.graphemes clusters
+        → first_lacking e (take start clusters) ≡ None
+        → IsRefusalOf (first_lacking e clusters) result }
+{
+    if !may_lack(e) {
+        return Stop::Refused(Cause::OutputTooLong);
+    }
+    let len = string.len();
+    let mut numbers = [0i32; LOOKED_AT];
+    let mut buffer = [0u32; CLUSTER_LIMIT];
+    let mut at = start;
+    'looking: while at < len {
+        let count = (len - at).min(LOOKED_AT as u64) as usize;
+        string.copy_into(at, &mut numbers[..count]);
+        match lacking(table, pass, &numbers[..count], e, &mut buffer) {
+            Some(k) => return Stop::Refused(Cause::NotEncodable { at: at + k as u64 }),
+            None => at += count as u64,
+        }
+    }
+    Stop::Refused(Cause::OutputTooLong)
+}
+
+/// The encoding of a part, before which the mark stands already.
+fn without_mark(e: Encoding) -> Encoding
+    ensures { result ≡ unmarked e }
+{
+    match e {
+        Encoding::Utf16 => Encoding::Utf16Be,
+        _ => e,
+    }
+}
+
+/// Writes the mark, where the encoding begins with one.
+fn write_start(alloc: Global, e: Encoding, output: &mut ByteList) -> Result<(), AllocError>
+    ensures { OnOk result (output.new ≡ output.old ++ text_start e) }
+{
+    match encode_into(alloc, e, &[], output) {
+        Ok(()) => Ok(()),
+        Err(_) => Err(AllocError),
+    }
+}
+
+/// Writes the bytes of a text: whether the encoding has its code points and the output is not too long.
+fn write(
+    alloc: Global,
+    e: Encoding,
+    codes: &[u32],
+    output: &mut ByteList,
+) -> Result<bool, AllocError>
+    requires text { IsText codes.now }
+    ensures { Writes e codes.now output.old output.new result }
+{
+    match encode_into(alloc, e, codes, output) {
+        Ok(()) => Ok(output.len() <= OUTPUT_LIMIT),
+        Err(EncodeError::Unencodable { .. }) => Ok(false),
+        Err(EncodeError::OutOfMemory) => Err(AllocError),
+    }
+}
+
+/// Writes the bytes of the graphemes `start..end`, by way of a list of their code points.
+fn write_part(
+    alloc: Global,
     table: &OwnTable,
     pass: &mut OwnPass,
     string: &NString,
+    start: u64,
+    end: u64,
     e: Encoding,
     codes: &mut CodeList,
-) -> Result<(), Stop>
+    output: &mut ByteList,
+) -> Result<bool, AllocError>
     requires table { IsOwnPass table.now pass.old }
     requires known { AreSpelled pass.old.texts string.now }
+    requires ordered { start ≤ end }
+    requires inside { end ≤ length string.now.graphemes }
     ensures table { IsOwnPass table.now pass.new }
     ensures texts { pass.new.texts ≡ pass.old.texts }
-    ensures gathered { (clusters : List (List ℕ))
+    ensures written { (clusters : List (List ℕ))
         → Represents (known_of pass.old.texts) string.now.graphemes clusters
-        → Gathers e clusters 0 codes.old codes.new result }
+        → Writes e (text_of (slice_range clusters start end)) output.old output.new result }
 {
-    let len = string.len();
-    let mut left = string.iter();
-    let mut numbers = [0i32; PART];
-    let mut buffer = [0u32; CLUSTER_LIMIT];
-    let mut at = 0u64;
-    'gathering: while at < len {
-        let count = left.read(&mut numbers);
-        match gather_part(table, pass, &numbers[..count], at, e, &mut buffer, codes) {
-            Ok(()) => at += count as u64,
-            Err(stop) => return Err(stop),
-        }
-    }
-    Ok(())
+    codes.truncate(0);
+    append_codes(table, pass, string, start, end, codes)?;
+    write(alloc, e, codes.as_slice(), output)
 }
 
-/// Writes the bytes of the text in the encoding.
-fn write(alloc: Global, e: Encoding, codes: &[u32], output: &mut ByteList) -> Result<(), Stop>
-    requires text { IsText codes.now }
-    ensures { Prints output.old output.new result (encode e codes.now) }
-{
-    let had = output.len();
-    match encode_into(alloc, e, codes, output) {
-        Ok(()) => within_limit(output, had),
-        Err(_) => Err(Stop::OutOfMemory),
-    }
-}
-
-/// Writes the bytes of the string in the encoding.
+/// Writes the bytes of the string in the encoding. It holds the code points of one part at a time, and
+/// stops with the part that is refused.
 pub(crate) fn put(
     alloc: Global,
     table: &OwnTable,
@@ -137,9 +199,24 @@ pub(crate) fn put(
         → Puts (first_lacking e clusters) output.old output.new
         result (encode e (text_of clusters)) }
 {
+    let had = output.len();
+    write_start(alloc, e, output)?;
+    let len = string.len();
+    let part = without_mark(e);
     let mut codes = CodeList::new(alloc);
-    match gather(table, pass, string, e, &mut codes) {
-        Ok(()) => write(alloc, e, codes.as_slice(), output),
-        Err(stop) => Err(stop),
+    let mut at = 0u64;
+    'putting: while at < len {
+        let end = at + (len - at).min(PART);
+        match write_part(
+            alloc, table, pass, string, at, end, part, &mut codes, output,
+        ) {
+            Ok(true) => at = end,
+            Ok(false) => {
+                output.truncate(had);
+                return Err(refusal(table, pass, string, e, at));
+            }
+            Err(error) => return Err(Stop::from(error)),
+        }
     }
+    within_limit(output, had)
 }

@@ -10,7 +10,7 @@ use std::marker::{Send, Sync};
 use std::test::Fail;
 
 /// What a script gives over a table of 16 places.
-fn output_of(alloc: Global, script: &[u8], reads: &[FileRead]) -> Result<Output, Fail>
+pub(crate) fn output_of(alloc: Global, script: &[u8], reads: &[FileRead]) -> Result<Output, Fail>
     requires { AreWithinLimit reads.now }
 {
     match parse(alloc, script) {
@@ -19,7 +19,7 @@ fn output_of(alloc: Global, script: &[u8], reads: &[FileRead]) -> Result<Output,
     }
 }
 
-fn refused(line: u32, cause: Cause) -> Option<RefusedLine> {
+pub(crate) fn refused(line: u32, cause: Cause) -> Option<RefusedLine> {
     Some(RefusedLine { line, cause })
 }
 

@@ -1,5 +1,6 @@
 use Rattle.std.proofs.Common.{◌<◌, ◌≤◌, length, refl, rules}
-use Rattle.nfg_run.proofs.ReadLemmas.{HasFile-too_long, HasFile-whole, most_after, within-limit}
+use Rattle.nfg_run.specs.Headline.{most_after}
+use Rattle.nfg_run.proofs.ReadLemmas.{HasFile-too_long, HasFile-whole, within-limit}
 use Rattle.nfg_run.proofs.reading.read_load.Goals as goal
 
 pub returns-then-len-limit-clause-read : goal.returns-then-len-limit-clause-read

@@ -3,6 +3,7 @@ use Rattle.nfg_io.specs.Files.{HasFailedAt}
 use Rattle.nfg_script.specs.Script.{load_paths}
 use Rattle.nfg_run.specs.Headline.{failed_load}
 use Rattle.nfg_run.proofs.Answered.{HasFailedAt-earlier, IfSome-none, IfSome-some}
+use Rattle.nfg_run.proofs.LastOpen.{OpensGoOn, OpensGoOn-first, OpensGoOn-bytes, OpensGoOn-too_long, OpensGoOn-failed, OpensGoOn-last}
 use Rattle.nfg_run.proofs.Loads.{LoadsGoOn, IsNextRead, LoadsGoOn-first, LoadsGoOn-bytes, LoadsGoOn-too_long, LoadsGoOn-failed, LoadsGoOn-last}
 use Rattle.nfg_run.proofs.reading.read_loads.Goals as goal
 
@@ -14,6 +15,8 @@ loading-init g c =
       contents = refl;
       never_falls = omega arith;
       goes_on = subst (λ v. LoadsGoOn contents paths v paths 0) (sym c.new-reads.ensures.items) (LoadsGoOn-first contents paths);
+      opens = λ last most is. subst (λ v. OpensGoOn (g.F.Files.state c.args.files.now) last most paths v paths 0) (sym c.new-reads.ensures.items)
+          (OpensGoOn-first (g.F.Files.state c.args.files.now) last most paths is);
     }
 
 pub loading-preserved-in_default : goal.loading-preserved-in_default
@@ -25,6 +28,8 @@ loading-preserved-in_default g c =
       contents = i.contents;
       never_falls = i.never_falls;
       goes_on = subst (λ v. LoadsGoOn contents paths c.loading.reads.items v c.loading.earlier) c.in_default.ensures i.goes_on;
+      opens = λ last most is. subst (λ v. OpensGoOn (g.F.Files.state c.loading.files) last most paths c.loading.reads.items v c.loading.earlier)
+          c.in_default.ensures (i.opens last most is);
     }
 
 pub read_load-requires : goal.read_load-requires
@@ -112,6 +117,11 @@ loading-preserved g c =
       goes_on = subst (λ n. LoadsGoOn contents paths c.push.new.self.items rest (c.loading.earlier + n)) (sym c.len-earlier.ensures)
           (LoadsGoOn-bytes contents paths c.loading.reads.items c.push.new.self.items left c.loading.earlier
           c.in-Some.path.now rest c.in_ok-bytes.field-0 c.in-Bytes.bytes i.goes_on is c.in-Bytes.is c.in_ok-push-in-Bytes.ensures.items);
+      opens = λ last most before. subst (λ n. OpensGoOn (g.F.Files.state c.read_load.new.files) last most paths c.push.new.self.items rest (c.loading.earlier + n))
+          (sym c.len-earlier.ensures)
+          (OpensGoOn-bytes (g.F.Files.state c.loading.files) _ last most paths c.loading.reads.items c.push.new.self.items left c.loading.earlier
+          c.in-Some.path.now rest c.in-Bytes.bytes (i.opens last most before) c.in-Some.ensures c.in_ok-push-in-Bytes.ensures.items
+          c.in_ok-bytes.ensures.is_open);
     }
 
 pub returns-clause-read : goal.returns-clause-read
@@ -127,3 +137,20 @@ returns-clause-failed g c =
 
 pub returns-clause-never_falls : goal.returns-clause-never_falls
 returns-clause-never_falls g c = c.loading.invariant.never_falls
+
+pub returns-in-TooLong-clause-last_open : goal.returns-in-TooLong-clause-last_open
+returns-in-TooLong-clause-last_open g c = λ last most before.
+    OpensGoOn-too_long (g.F.Files.state c.loading.files) _ last most (load_paths c.args.script.now) c.loading.reads.items c.push-in-TooLong.new.self.items
+    (load_paths (drop c.loading.k c.args.script.now)) c.loading.earlier c.in-Some.path.now (load_paths (drop (c.loading.k + 1) c.args.script.now))
+    (c.loading.invariant.opens last most before) c.in-Some.ensures c.in_ok-push-in-TooLong.ensures.items c.in_ok-bytes.ensures.is_open
+
+pub returns-in-Failed-clause-last_open : goal.returns-in-Failed-clause-last_open
+returns-in-Failed-clause-last_open g c = λ last most before.
+    OpensGoOn-failed (g.F.Files.state c.loading.files) _ last most (load_paths c.args.script.now) c.loading.reads.items c.push-in-Failed.new.self.items
+    (load_paths (drop c.loading.k c.args.script.now)) c.loading.earlier c.in-Some.path.now (load_paths (drop (c.loading.k + 1) c.args.script.now))
+    (c.loading.invariant.opens last most before) c.in-Some.ensures c.in_ok-push-in-Failed.ensures.items c.in_ok-bytes.ensures.is_open
+
+pub returns-clause-last_open : goal.returns-clause-last_open
+returns-clause-last_open g c = λ last most before.
+    let past : length c.args.script.now ≤ c.loading.k = omega (arith, c.loading-test.false, c.len-k-end.ensures) in
+    OpensGoOn-last _ last most c.args.script.now c.loading.reads.items c.loading.k c.loading.earlier (c.loading.invariant.opens last most before) past

@@ -36,6 +36,7 @@ showing-preserved c =
       left = c.read-count.ensures.left ∙ ap (drop count) c.showing.invariant.left ∙ drop-drop count c.showing.at c.args.string.now.graphemes;
       numbers = search rules;
       room = search rules;
+      scratch = search rules;
       table = search rules;
       texts = search rules;
       line = λ clusters are.

@@ -11,6 +11,7 @@ invariant-showing l = record {
   left : l.left ≡ drop l.at l.string.graphemes;
   numbers : length l.numbers ≡ 256;
   room : length l.buffer ≡ 1024;
+  scratch : length l.scratch ≡ 2304;
   table : IsOwnPass l.table l.pass;
   texts : l.pass.texts ≡ l.fn.pass.texts;
   line : (clusters : List (List ℕ)) → Represents (known_of l.fn.pass.texts) l.string.graphemes clusters

@@ -1,4 +1,4 @@
-use Rattle.std.proofs.Common.{◌≡◌, ℕ, List, ◌++◌, take, length}
+use Rattle.std.proofs.Common.{◌≡◌, ◌*◌, ◌-◌, ◌≤◌, ℕ, List, ◌++◌, take, length}
 use Rattle.std.specs.List.{flat_map}
 use Rattle.nfg_syn.specs.OwnTexts.{IsOwnPass, known_of}
 use Rattle.nfg_syn.specs.Represents.{Represents}
@@ -7,9 +7,14 @@ use Rattle.nfg_work.proofs.printing.show_part.Given as goal
 
 abbrev pub invariant-showing : goal.invariant-showing
 invariant-showing l = record {
+  inside : l.at ≤ length l.numbers;
   table : IsOwnPass l.table l.pass;
   texts : l.pass.texts ≡ l.fn.pass.texts;
   room : length l.buffer ≡ 1024;
+  scratch : 9 * length l.numbers ≤ length l.scratch;
   line : (clusters : List (List ℕ)) → Represents (known_of l.fn.pass.texts) l.numbers clusters
-      → l.output ≡ l.fn.output ++ flat_map shown_with_space (take l.i clusters);
+      → l.output ≡ l.fn.output ++ flat_map shown_with_space (take l.at clusters);
 }
+
+abbrev pub decreases-showing : goal.decreases-showing
+decreases-showing l = length l.numbers - l.at

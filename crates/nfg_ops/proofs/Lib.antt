@@ -1,0 +1,12 @@
+pub mod Asked
+pub mod Candidates
+pub mod Critical
+pub mod Fronts
+pub mod Numbers
+pub mod Orders
+pub mod PlacesLemmas
+pub mod Spelling
+pub mod Standing
+pub mod Steps
+pub mod Suffixes
+pub mod Walking

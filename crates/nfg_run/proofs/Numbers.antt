@@ -1,0 +1,55 @@
+-- Which words std's numerals are, and what stands behind the start of a word.
+use Rattle.std.proofs.Common.{◌≡◌, ◌≢◌, ℕ, nat_lt, nat_eq, ◌<◌, ◌≤◌, ◌^◌, Bool, true, false, ◌&&◌, List, [], ◌∷◌, length, drop, Option, Some, None, MatchOption, ⊎_elim, refl, sym, ap, ◌∙◌, ◌==◌, arith, Bor}
+use Rattle.std.specs.List.{list_all, starts_with}
+use Rattle.std.specs.Char.{is_ascii_digit, digit_value}
+use Rattle.std.specs.Str.Parse.{AllDigits, IsNumeral, digits_value, without_leading_plus}
+use Rattle.std.proofs.lemmas.Bool.{cases_lt}
+use Rattle.std.proofs.lemmas.Bool.Decides.{nat_tests}
+use Rattle.std.specs.Str.Pattern.{FindsTextPrefix, StripsPrefix}
+use Rattle.std.proofs.lemmas.Str.Pattern.{starts_text}
+use Rattle.std.proofs.Math.Bool.{and-false}
+use Rattle.nfg_run.specs.CommandLine.{number_of}
+
+both : (a b : Bool) → (a && b) ≡ true → (a ≡ true) × (b ≡ true)
+both true b e = (refl, e)
+both false b e = cc
+
+digit_below : (c : ℕ) → is_ascii_digit c ≡ true → digit_value c < 10
+digit_below c e = grind (arith, nat_tests)
+
+all_digits : (word : List ℕ) → list_all is_ascii_digit word ≡ true → AllDigits 10 word
+all_digits [] e = tt
+all_digits (c ∷ word) e =
+    let parts = both (is_ascii_digit c) (list_all is_ascii_digit word) e in
+    (digit_below c parts.0, all_digits word parts.1)
+
+no_plus : (word : List ℕ) → list_all is_ascii_digit word ≡ true → without_leading_plus word ≡ word
+no_plus [] e = refl
+no_plus (c ∷ word) e =
+    let parts = both (is_ascii_digit c) (list_all is_ascii_digit word) e in
+    let other : (c == 43) ≡ false = grind (arith, nat_tests) in
+    rw other refl
+
+-- digits that are no numeral below 2^64 are no number
+pub number_of-none : (word : List ℕ) → length word ≢ 0 → list_all is_ascii_digit word ≡ true
+    → ¬ (IsNumeral 10 (without_leading_plus word) × (digits_value 10 (without_leading_plus word) < 2 ^ 64))
+    → None ≡ number_of word
+unfolding number_of
+number_of-none word some digits none =
+    let same : without_leading_plus word ≡ word = no_plus word digits in
+    let numeral : AllDigits 10 word = all_digits word digits in
+    let large : 2 ^ 64 ≤ digits_value 10 word =
+    ⊎_elim (λ (below : digits_value 10 word < 2 ^ 64). absurd (none (rw same ((omega arith, numeral), below)))) (λ above. above)
+    (cases_lt (digits_value 10 word) (2 ^ 64)) in
+    let e : nat_lt (digits_value 10 word) (2 ^ 64) ≡ false = grind (arith, nat_tests) in
+    rw e (simp and-false)
+
+-- what is left of a text behind its start
+pub drop-start : (start word : List ℕ) (rest : Option (Bor (List ℕ)))
+    → MatchOption rest (FindsTextPrefix start word None) (λ x. StripsPrefix (FindsTextPrefix start) word x.now)
+    → MatchOption rest (starts_with nat_eq word start ≡ false)
+    (λ value. (starts_with nat_eq word start ≡ true) × (value.now ≡ drop (length start) word))
+drop-start start word None lacks = sym (starts_text false start word lacks)
+drop-start start word (Some value) strips =
+    let finds : FindsTextPrefix start word (Some strips.0) = strips.1 in
+    (sym (starts_text true start word (strips.0, finds, rw (finds.0) finds.2)), strips.2 ∙ ap (λ n. drop n word) finds.0)

@@ -1,0 +1,87 @@
+//! The commands that join: `cat` and `rep`.
+ghost use Rattle.std.specs.Prelude.{◌≡◌, ℕ, List, Some, None};
+ghost use Rattle.nfg_work.specs.declared.output.FileRead.{FileRead};
+ghost use Rattle.nfg_work.specs.Evaluation.{State, define_cat, define_rep, value_of};
+ghost use Rattle.nfg_work.specs.Holding.{Holds, IsHeld, Follows, IsSeamStop, join_refusal};
+
+use crate::Cause;
+use crate::defining::{define, is_over};
+use crate::evaluation::Evaluation;
+use crate::naming::string_of_name;
+use crate::stop::Stop;
+use nfg_seam::{SeamError, concat, repeat};
+use nfg_strand::NString;
+use std::alloc::Global;
+
+/// The most graphemes that a line joins.
+const JOIN_LIMIT: u64 = 1 << 26;
+
+/// Why so many graphemes are not joined, where all strings have cost so much.
+fn join_refusal(spent: u64, count: u64) -> Option<Cause>
+    ensures { result ≡ join_refusal spent count }
+{
+    if count > JOIN_LIMIT {
+        return Some(Cause::StringTooLong);
+    }
+    if is_over(spent, count) {
+        return Some(Cause::AllTooLong);
+    }
+    None
+}
+
+/// Why what was joined defines no name.
+fn stop_of_seam(error: SeamError) -> Stop
+    ensures { IsSeamStop error result }
+{
+    match error {
+        SeamError::TooLong => Stop::Refused(Cause::StringTooLong),
+        SeamError::ClusterLong { at } => Stop::Refused(Cause::ClusterTooLong { at }),
+        SeamError::RowFull => Stop::Refused(Cause::TableFull),
+        SeamError::NoPortion => Stop::Refused(Cause::TableFull),
+        SeamError::OutOfMemory => Stop::OutOfMemory,
+    }
+}
+
+/// The next name gets two strings, joined.
+pub(crate) fn cat(alloc: Global, held: &mut Evaluation, a: u32, b: u32) -> Result<(), Stop>
+    requires held { (reads : List FileRead) × IsHeld held.old.table reads held.old }
+    ensures { (places : ℕ) (reads : List FileRead) (state : State)
+        → Holds places reads held.old state
+        → Follows places reads held.old held.new result
+        (define_cat places state (value_of state a) (value_of state b)) }
+{
+    let nothing = NString::empty(alloc);
+    let left = string_of_name(&held.strings, a, &nothing);
+    let right = string_of_name(&held.strings, b, &nothing);
+    let count = left.len() + right.len();
+    if let Some(cause) = join_refusal(held.spent, count) {
+        return Err(Stop::Refused(cause));
+    }
+    match concat(alloc, &held.table, &mut held.pass, left, right) {
+        Ok(string) => define(held, count, string),
+        Err(error) => Err(stop_of_seam(error)),
+    }
+}
+
+/// The next name gets a string, repeated.
+pub(crate) fn rep(alloc: Global, held: &mut Evaluation, a: u32, times: u64) -> Result<(), Stop>
+    requires held { (reads : List FileRead) × IsHeld held.old.table reads held.old }
+    ensures { (places : ℕ) (reads : List FileRead) (state : State)
+        → Holds places reads held.old state
+        → Follows places reads held.old held.new result
+        (define_rep places state (value_of state a) times) }
+{
+    let nothing = NString::empty(alloc);
+    let string = string_of_name(&held.strings, a, &nothing);
+    let count = match string.len().checked_mul(times) {
+        Some(count) => count,
+        None => return Err(Stop::Refused(Cause::StringTooLong)),
+    };
+    if let Some(cause) = join_refusal(held.spent, count) {
+        return Err(Stop::Refused(cause));
+    }
+    match repeat(alloc, &held.table, &mut held.pass, string, times) {
+        Ok(string) => define(held, count, string),
+        Err(error) => Err(stop_of_seam(error)),
+    }
+}
