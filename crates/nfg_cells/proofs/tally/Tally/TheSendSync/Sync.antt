@@ -1,0 +1,6 @@
+use denote.Param.Send.{IsSync, part_keyless}
+use Rattle.nfg_cells.specs.contracts.tally.Tally.{the_row}
+use Rattle.nfg_cells.proofs.tally.Tally.TheSendSync.Send.{send}
+
+pub sync : IsSync the_row
+sync = record { shared = λ d b o κ q. part_keyless the_row send q d b o }
