@@ -1,0 +1,11 @@
+mod Asks
+mod Entries
+mod Examples
+mod KeepsChunks
+mod KeepsPublish
+mod KeepsRule
+mod KeepsViews
+mod Moved
+mod Opening
+mod ProbeTableLemmas
+mod Reading

@@ -1,0 +1,9 @@
+//! A table of synthetics that callers on several threads share without locks.
+#![tactic(auto)]
+
+pub mod laws;
+pub mod layout;
+#[cfg(test)]
+mod tests;
+pub mod view;
+pub mod words;
