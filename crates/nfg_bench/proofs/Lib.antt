@@ -1,3 +1,4 @@
+pub mod Benches
 pub mod ElementLemmas
 pub mod GraphemeLemmas
 pub mod SampleLemmas

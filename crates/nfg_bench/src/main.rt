@@ -8,11 +8,15 @@ mod decode;
 mod lanes;
 mod pipeline;
 mod plain;
+mod print;
+mod seam;
+mod search;
 mod segment;
 mod strand;
 mod stream;
 mod texts;
 mod timing;
+mod workbench;
 
 // The first word after the program's name says what to time; with none, nothing is.
 fn main(rt: HostRuntime) -> io::Result<()> {
@@ -25,9 +29,14 @@ fn main(rt: HostRuntime) -> io::Result<()> {
             "decode" => decode::report(&rt, rt.alloc()),
             "strand" => strand::report(&rt, rt.alloc()),
             "stream" => stream::report(&rt, rt.alloc()),
+            "seam" => seam::report(&rt, rt.alloc()),
+            "search" => search::report(&rt, rt.alloc()),
+            "print" => print::report(&rt, rt.alloc()),
             "segment" => segment::report(&rt, rt.alloc()),
             _ => println!(rt; "No such subject: {word}"),
         },
-        None => println!(rt; "Name what to time: lanes, blocks, decode, strand, stream"),
+        None => println!(rt;
+            "Name what to time: lanes, blocks, decode, strand, stream, segment, seam, search, print"
+        ),
     }
 }

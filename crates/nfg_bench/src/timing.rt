@@ -1,7 +1,9 @@
 //! Medians of repeated timings, and the line that is printed of them.
 ghost use Rattle.std.specs.Prelude.{◌≡◌, ◌<◌, ◌≤◌, ◌/◌, ◌^◌, length, slice_index_or, IfOk};
 ghost use Rattle.std.specs.List.Sorted.{IsNonDecreasing, IsPermutation};
+ghost use Rattle.nfg_bench.specs.Workbench.{IsReady};
 
+use crate::workbench::{Job, Workbench};
 use std::io;
 use std::rt::Clock;
 use std::time::Instant;
@@ -15,7 +17,7 @@ const FEW_RUNS: usize = 9;
 /// The medians of two ways to do the same work, in nanoseconds, and how much they answered in all,
 /// which keeps the compiler from leaving work out.
 #[derive(Clone, Copy)]
-struct Timings {
+pub struct Timings {
     fast: u64,
     plain: u64,
     answered: usize,
@@ -74,7 +76,7 @@ fn in_turn<C: Comparison>(clock: &impl Clock, work: &C, runs: usize) -> io::Resu
 }
 
 /// Prints picoseconds an element, the same of the plain way, and how many times as long that takes.
-fn print_row(rt: &impl Print, name: &str, elements: usize, timings: Timings) -> io::Result<()> {
+pub fn print_row(rt: &impl Print, name: &str, elements: usize, timings: Timings) -> io::Result<()> {
     let each = (elements as u64).clamp(1, LONGEST);
     let fast = timings.fast.clamp(1, LONGEST);
     let plain = timings.plain.min(LONGEST);
@@ -87,6 +89,67 @@ fn print_row(rt: &impl Print, name: &str, elements: usize, timings: Timings) -> 
         tenths % 10,
         timings.answered
     )
+}
+
+/// The same where the first way does the work of the second as well, of which only the rest counts.
+pub fn compare_rest<C: Comparison>(
+    rt: &(impl Print + Clock),
+    name: &str,
+    elements: usize,
+    work: &C,
+) -> io::Result<()> {
+    let both = in_turn(rt, work, FEW_RUNS)?;
+    let rest = Timings {
+        fast: both.fast.saturating_sub(both.plain),
+        plain: both.plain,
+        answered: both.answered,
+    };
+    print_row(rt, name, elements, rest)
+}
+
+/// Times two jobs on a workbench in turn.
+pub fn jobs_in_turn(
+    clock: &impl Clock,
+    bench: &mut Workbench,
+    fast: Job,
+    plain: Job,
+) -> io::Result<Timings>
+    requires ready { IsReady bench.old }
+    ensures ready { IsReady bench.new }
+{
+    let mut fast_times = [0; FEW_RUNS];
+    let mut plain_times = [0; FEW_RUNS];
+    let mut answered: usize = 0;
+    for run in 0..FEW_RUNS {
+        let start = Instant::now(clock)?;
+        let answer = bench.run(fast);
+        fast_times[run] = nanoseconds(clock, start)?;
+        let start = Instant::now(clock)?;
+        let other = bench.run(plain);
+        plain_times[run] = nanoseconds(clock, start)?;
+        answered = answered.wrapping_add(answer).wrapping_add(other);
+    }
+    Ok(Timings {
+        fast: median(&mut fast_times),
+        plain: median(&mut plain_times),
+        answered,
+    })
+}
+
+/// Times two jobs on a workbench, and prints their row.
+pub fn compare_jobs(
+    rt: &(impl Print + Clock),
+    name: &str,
+    elements: usize,
+    bench: &mut Workbench,
+    fast: Job,
+    plain: Job,
+) -> io::Result<()>
+    requires ready { IsReady bench.old }
+    ensures ready { IsReady bench.new }
+{
+    let timings = jobs_in_turn(rt, bench, fast, plain)?;
+    print_row(rt, name, elements, timings)
 }
 
 /// Times the work over so many elements, and prints its row.

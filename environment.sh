@@ -1,0 +1,7 @@
+# shellcheck shell=bash
+# How the C library hands out memory, for the programs of this repository. The launcher nfg and bench/run source this file.
+# A long string takes fresh memory from the system. Where it lets a program ask for large pages, that costs half; and what a
+# string leaves is kept for the next one.
+nfg_keep=glibc.malloc.mmap_threshold=1073741824:glibc.malloc.trim_threshold=4294967296
+export GLIBC_TUNABLES=${GLIBC_TUNABLES:-glibc.malloc.hugetlb=1:$nfg_keep}
+unset nfg_keep
