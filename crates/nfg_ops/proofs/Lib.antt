@@ -10,3 +10,4 @@ pub mod Standing
 pub mod Steps
 pub mod Suffixes
 pub mod Walking
+pub mod Writing

@@ -12,10 +12,10 @@ returns-then-are_codes-clause-added g c = λ clusters represents.
     let known = (g.T.Synthetics.seen c.args.pass.now).known in
     let codes = sym c.are_codes.ensures ∙ c.if-are_codes.true in
     subst (λ t. OnOk c.append_plain.result (c.append_plain.new.into ≡ c.args.into.now ++ t))
-    (codes-text known c.args.numbers.now clusters codes represents) c.append_plain.ensures
+    (codes-text known c.args.numbers.now clusters codes represents) c.append_plain.ensures.added
 
-pub append_run-requires-clause-known : goal.append_run-requires-clause-known
-append_run-requires-clause-known g c κs within =
+pub spell-spelled-requires-clause-known : goal.spell-spelled-requires-clause-known
+spell-spelled-requires-clause-known g c κs within =
     known-same _ _ c.loop-at.invariant.asked.known (take (length c.args.numbers.now - c.loop-at.at) (drop c.loop-at.at c.args.numbers.now))
     (known-range _ c.args.numbers.now c.loop-at.at (length c.args.numbers.now) c.requires.known)
 
@@ -23,22 +23,23 @@ pub loop-at-preserved : goal.loop-at-preserved
 loop-at-preserved g c =
     let numbers = c.args.numbers.now in
     let at = c.loop-at.at in
-    let count = c.in_ok-count.count in
+    let count = c.spell-spelled.result.numbers in
     let left = length numbers - at in
     let behind = length-drop at numbers in
     let long : length (take left (drop at numbers)) ≡ left = length-take-le left (drop at numbers) (omega (arith, behind)) in
-    let few : count ≤ left = omega (arith, c.in_ok-count.ensures.within, long) in
+    let few : count ≤ left = omega (arith, c.spell-spelled.ensures.numbers, long) in
     record {
       high = omega (arith, few, c.loop-at.invariant.high);
-      table = c.in_ok-count.ensures.table;
-      asked = asked-both _ _ _ c.loop-at.invariant.asked c.in_ok-count.ensures.asked;
-      room = omega (arith, c.append_run.auto.scratch, c.loop-at.invariant.room);
+      table = c.spell-spelled.ensures.table;
+      asked = asked-both _ _ _ c.loop-at.invariant.asked c.spell-spelled.ensures.asked;
+      room = c.spell-spelled.ensures.room ∙ c.loop-at.invariant.room;
       added = λ clusters represents.
           let rest = Represents-same_known _ _ c.loop-at.invariant.asked.known (take left (drop at numbers)) (take left (drop at clusters))
           (Represents-take _ left (drop at numbers) (drop at clusters) (Represents-drop _ at numbers clusters represents)) in
-          text-front c.args.into.now c.loop-at.into c.append_run.new.into clusters at count (c.loop-at.invariant.added clusters represents)
-          (c.in_ok-count.ensures.added (take left (drop at clusters)) rest
-          ∙ ap (λ cs. c.loop-at.into ++ text_of cs) (take-take count left (drop at clusters) few));
+          let written = c.spell-spelled.ensures.written (take left (drop at clusters)) rest
+          ∙ ap text_of (take-take count left (drop at clusters) few) in
+          text-front c.args.into.now c.loop-at.into c.append.new.self clusters at count (c.loop-at.invariant.added clusters represents)
+          (c.in_ok-append.ensures.ok ∙ ap (λ t. c.loop-at.into ++ t) written);
     }
 
 pub returns-clause-added : goal.returns-clause-added

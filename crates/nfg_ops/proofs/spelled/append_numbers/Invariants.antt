@@ -10,7 +10,7 @@ invariant-loop-at g l = record {
   high : l.at ≤ length l.numbers;
   table : g.T.Synthetics.is_of l.table l.pass;
   asked : HasAsked (g.T.Synthetics.seen l.fn.pass) (g.T.Synthetics.seen l.pass);
-  room : length l.numbers ≤ length l.scratch;
+  room : length l.scratch ≡ length l.fn.scratch;
   added : (clusters : List (List ℕ)) → Represents (g.T.Synthetics.seen l.fn.pass).known l.numbers clusters
       → l.into ≡ l.fn.into ++ text_of (take l.at clusters);
 }
