@@ -1,11 +1,19 @@
 mod Examples
 pub mod Answered
+pub mod BuiltCommand
+pub mod ClapMatches
+pub mod ClapRows
+pub mod ClapTurns
+pub mod ClapUses
+pub mod ClapWalk
 pub mod Drawing
 pub mod Faultless
 pub mod Fronts
+pub mod GatheredWords
 pub mod LastOpen
 pub mod Lines
 pub mod Loads
 pub mod Numbers
 pub mod ReadLemmas
+pub mod SeenWords
 pub mod Sending

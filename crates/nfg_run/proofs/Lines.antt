@@ -1,15 +1,12 @@
--- The words of the command line, one after the other.
-use Rattle.std.proofs.Common.{◌≡◌, ℕ, zero, suc, ◌+◌, ◌≤◌, ◌^◌, Bool, true, false, ◌||◌, ◌==◌, List, [], ◌∷◌, length, drop, Option, Some, None, IfSome, refl, ap, subst, arith, lit≤, if◌then◌else◌, bytes_eq, codes, nat_eq, slice_index_or, ◌≢◌}
-use Rattle.std.specs.List.{starts_with}
+-- What the texts of the command line say, and what they ask for.
+use Rattle.std.proofs.Common.{◌≡◌, ℕ, zero, suc, ◌+◌, ◌≤◌, ◌^◌, Bool, true, false, ◌||◌, ◌==◌, List, [], ◌∷◌, length, Option, Some, None, IfSome, option_map, refl, sym, ap, subst, arith, lit≤, if◌then◌else◌, slice_index_or, ◌≢◌}
 use Rattle.std.proofs.lemmas.Bool.Decides.{nat_tests}
-use Rattle.std.proofs.lemmas.List.{drop_all}
 use Rattle.nfg_syn.specs.Known.{IsRowSize}
-use Rattle.nfg_run.specs.declared.said.OptionName.{OptionName}
-use Rattle.nfg_run.specs.declared.said.OptionName.TheVariants.{Workers, Table}
-use Rattle.nfg_run.specs.declared.said.Next.{Next}
-use Rattle.nfg_run.specs.declared.said.Next.TheVariants.{Free, Value, Plain}
 use Rattle.nfg_run.specs.declared.said.Said.{Said}
-use Rattle.nfg_run.specs.CommandLine.{number_of, if_passes, is_power_from, is_table_size, option_number, with_number, with_value, with_free_word, with_word, with_words, places_of, is_plain_word, nothing_said, or_default, if_first, run_of, gen_of, gen_by, path_of, is_seed, is_count, workers_of, Run}
+use Rattle.nfg_run.specs.CommandLine.{Table, number_of, if_passes, is_power_from, is_table_size, option_number, places_of, or_default, run_of, gen_of, gen_by, path_of, is_seed, is_count, workers_of, Run}
+use Rattle.nfg_run.specs.WordTexts.{given_number}
+use Rattle.nfg_run.proofs.ClapRows.{some≢none}
+use Rattle.nfg_run.proofs.GatheredWords.{inner}
 
 -- a power of two is a size of the table
 power_size : (exponent number : ℕ) → 4 ≤ exponent → exponent ≤ 20 → (number == 2 ^ exponent) ≡ true → IsRowSize number
@@ -33,10 +30,6 @@ IsRowSize-power exponent (suc more) number low high is =
 pub IsRowSize-of : (number : ℕ) → is_table_size number ≡ true → IsRowSize number
 IsRowSize-of number is = IsRowSize-power 4 16 number (lit≤ tt) (lit≤ tt) is
 
--- the option of the table has a size of the table, where it is given
-abbrev pub IsSized : Said → Type 0
-IsSized said = IfSome said.places IsRowSize
-
 passes : (test : ℕ → Bool) (P : ℕ → Type 0) → ((n : ℕ) → test n ≡ true → P n) → (n : ℕ) (b : Bool) → test n ≡ b
     → IfSome (if b then Some n else None) P
 passes test P f n true e = f n e
@@ -48,55 +41,17 @@ IfSome-if_passes : (test : ℕ → Bool) (P : ℕ → Type 0) → ((n : ℕ) →
 IfSome-if_passes test P f None = tt
 IfSome-if_passes test P f (Some n) = passes test P f n (test n) refl
 
-sized-if_first : (earlier : Option ℕ) (said : Said) → IsSized said → IfSome (if_first earlier said) IsSized
-sized-if_first None said sized = sized
-sized-if_first (Some number) said sized = tt
+sized-number : (number places : Option ℕ) → IfSome number IsRowSize → option_map (λ n. Some n) number ≡ Some places → IfSome places IsRowSize
+sized-number None places size e = absurd (some≢none places (sym e))
+sized-number (Some number) None size e = tt
+sized-number (Some number) (Some places) size e = subst (λ o. IfSome o IsRowSize) (ap inner e) size
 
-sized-table : (said : Said) (number : Option ℕ) → IfSome number IsRowSize → IfSome (with_number said Table number) IsSized
-sized-table said None size = tt
-sized-table said (Some number) size = sized-if_first said.places _ size
-
-sized-workers : (said : Said) (number : Option ℕ) → IsSized said → IfSome (with_number said Workers number) IsSized
-sized-workers said None sized = tt
-sized-workers said (Some number) sized = sized-if_first said.workers _ sized
-
-sized-value : (said : Said) (name : OptionName) (word : List ℕ) → IsSized said → IfSome (with_value said name word) IsSized
-sized-value said Workers word sized = sized-workers said (option_number Workers word) sized
-sized-value said Table word sized =
-    sized-table said (option_number Table word) (IfSome-if_passes is_table_size IsRowSize IsRowSize-of (number_of word))
-
-sized-if : (b : Bool) (x y : Option Said) → IfSome x IsSized → IfSome y IsSized → IfSome (if b then x else y) IsSized
-sized-if true x y left right = left
-sized-if false x y left right = right
-
-sized-free : (said : Said) (word : List ℕ) → IsSized said → IfSome (with_free_word said word) IsSized
-sized-free said word sized =
-    sized-if (bytes_eq word (codes "--")) _ _ sized
-    (sized-if (is_plain_word word) _ _ sized
-    (sized-if (bytes_eq word (codes "--workers")) _ _ sized
-    (sized-if (bytes_eq word (codes "--table")) _ _ sized
-    (sized-if (starts_with nat_eq word (codes "--workers=")) _ _ (sized-value said Workers (drop 10 word) sized)
-    (sized-if (starts_with nat_eq word (codes "--table=")) _ _ (sized-value said Table (drop 8 word) sized)
-    tt)))))
-
-sized-word : (next : Next) (said : Said) (word : List ℕ) → IsSized said → IfSome (with_word next said word) IsSized
-sized-word Free said word sized = sized-free said word sized
-sized-word (Value name) said word sized = sized-value said name word sized
-sized-word Plain said word sized = sized
-
--- what holds of what there is holds of what is made of it
-sized-more : (said : Option Said) (words : List (List ℕ)) → IfSome said IsSized
-    → ((more : Said) → IsSized more → IfSome (with_words more words) IsSized)
-    → IfSome (elim said [ None ↦ None | Some more ↦ with_words more words ]) IsSized
-sized-more None words sized f = tt
-sized-more (Some said) words sized f = f said sized
-
-sized-words : (said : Said) (words : List (List ℕ)) → IsSized said → IfSome (with_words said words) IsSized
-unfolding with_words
-sized-words said [] sized = sized
-sized-words said (word ∷ words) sized =
-    sized-more (with_word said.next said word) words (sized-word said.next said word sized)
-    (λ more more_sized. sized-words more words more_sized)
+-- the places that are given are a size of the table
+sized-given : (text : Option (List ℕ)) (places : Option ℕ) → given_number Table text ≡ Some places → IfSome places IsRowSize
+sized-given None None e = tt
+sized-given None (Some places) e = absurd (some≢none places (sym (ap inner e)))
+sized-given (Some text) places e =
+    sized-number (option_number Table text) places (IfSome-if_passes is_table_size IsRowSize IsRowSize-of (number_of text)) e
 
 default_size : IsRowSize 262144
 default_size = IsRowSize-of 262144 refl
@@ -105,31 +60,9 @@ places_sized : (places : Option ℕ) → IfSome places IsRowSize → IsRowSize (
 places_sized None size = default_size
 places_sized (Some number) size = size
 
--- the places of lawful words are a size of the table
-pub IsRowSize-places_of : (words : List (List ℕ)) (said : Said) → with_words nothing_said words ≡ Some said → IsRowSize (places_of said)
-IsRowSize-places_of words said e =
-    places_sized said.places (subst (λ v. IfSome v IsSized) e (sized-words nothing_said words tt))
-
--- what is said with these words too, where the words before them are lawful
-abbrev with_more : List (List ℕ) → Option Said → Option Said
-with_more words said = elim said [ None ↦ None | Some more ↦ with_words more words ]
-
--- one more word is lawful
-pub with_words-more : (said more : Said) (word : List ℕ) (words : List (List ℕ)) → with_word said.next said word ≡ Some more
-    → with_words said (word ∷ words) ≡ with_words more words
-unfolding with_words
-with_words-more said more word words e = ap (with_more words) e
-
--- one more word isn't lawful
-pub with_words-none : (said : Said) (word : List ℕ) (words : List (List ℕ)) → with_word said.next said word ≡ None
-    → with_words said (word ∷ words) ≡ None
-unfolding with_words
-with_words-none said word words e = ap (with_more words) e
-
--- no word is left
-pub with_words-last : (said : Said) (words : List (List ℕ)) (k : ℕ) → length words ≤ k → with_words said (drop k words) ≡ Some said
-unfolding with_words
-with_words-last said words k past = rw (drop_all k words past) refl
+-- the places, where their text is lawful or not given, are a size of the table
+pub IsRowSize-given : (text : Option (List ℕ)) (places : Option ℕ) → given_number Table text ≡ Some places → IsRowSize (or_default places 262144)
+IsRowSize-given text places e = places_sized places (sized-given text places e)
 
 -- `run` has no other count of plain words
 pub run_of-none : (said : Said) (plain : List (List ℕ)) → length plain ≢ 1 → run_of said plain ≡ None

@@ -1,12 +1,10 @@
--- Which words std's numerals are, and what stands behind the start of a word.
-use Rattle.std.proofs.Common.{◌≡◌, ◌≢◌, ℕ, nat_lt, nat_eq, ◌<◌, ◌≤◌, ◌^◌, Bool, true, false, ◌&&◌, List, [], ◌∷◌, length, drop, Option, Some, None, MatchOption, ⊎_elim, refl, sym, ap, ◌∙◌, ◌==◌, arith, Bor}
-use Rattle.std.specs.List.{list_all, starts_with}
+-- Which words std's numerals are.
+use Rattle.std.proofs.Common.{◌≡◌, ◌≢◌, ℕ, nat_lt, ◌<◌, ◌≤◌, ◌^◌, Bool, true, false, ◌&&◌, List, [], ◌∷◌, length, None, ⊎_elim, refl, ◌==◌, arith}
+use Rattle.std.specs.List.{list_all}
 use Rattle.std.specs.Char.{is_ascii_digit, digit_value}
 use Rattle.std.specs.Str.Parse.{AllDigits, IsNumeral, digits_value, without_leading_plus}
 use Rattle.std.proofs.lemmas.Bool.{cases_lt}
 use Rattle.std.proofs.lemmas.Bool.Decides.{nat_tests}
-use Rattle.std.specs.Str.Pattern.{FindsTextPrefix, StripsPrefix}
-use Rattle.std.proofs.lemmas.Str.Pattern.{starts_text}
 use Rattle.std.proofs.Math.Bool.{and-false}
 use Rattle.nfg_run.specs.CommandLine.{number_of}
 
@@ -43,13 +41,3 @@ number_of-none word some digits none =
     (cases_lt (digits_value 10 word) (2 ^ 64)) in
     let e : nat_lt (digits_value 10 word) (2 ^ 64) ≡ false = grind (arith, nat_tests) in
     rw e (simp and-false)
-
--- what is left of a text behind its start
-pub drop-start : (start word : List ℕ) (rest : Option (Bor (List ℕ)))
-    → MatchOption rest (FindsTextPrefix start word None) (λ x. StripsPrefix (FindsTextPrefix start) word x.now)
-    → MatchOption rest (starts_with nat_eq word start ≡ false)
-    (λ value. (starts_with nat_eq word start ≡ true) × (value.now ≡ drop (length start) word))
-drop-start start word None lacks = sym (starts_text false start word lacks)
-drop-start start word (Some value) strips =
-    let finds : FindsTextPrefix start word (Some strips.0) = strips.1 in
-    (sym (starts_text true start word (strips.0, finds, rw (finds.0) finds.2)), strips.2 ∙ ap (λ n. drop n word) finds.0)

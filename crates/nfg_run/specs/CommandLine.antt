@@ -1,12 +1,8 @@
 -- The words of the command line (this project's own). Each is a text in UTF-8.
-use Rattle.std.specs.Prelude.{ℕ, zero, suc, ◌^◌, Bool, true, false, not, ◌&&◌, ◌||◌, ◌==◌, nat_le, nat_lt, nat_eq, if◌then◌else◌, List, [], ◌∷◌, ◌++◌, length, drop, Option, Some, None, codes, bytes_eq}
+use Rattle.std.specs.Prelude.{ℕ, zero, suc, ◌^◌, Bool, not, ◌&&◌, ◌||◌, ◌==◌, nat_le, nat_lt, nat_eq, if◌then◌else◌, List, [], ◌∷◌, ◌++◌, length, drop, Option, Some, None, option_map, codes, bytes_eq}
 use Rattle.std.specs.List.{list_all, starts_with}
 use Rattle.std.specs.Char.{is_ascii_digit}
 use Rattle.std.specs.Str.Parse.{digits_value}
-use Rattle.nfg_run.specs.declared.said.OptionName.{OptionName}
-use Rattle.nfg_run.specs.declared.said.OptionName.TheVariants.{Workers, Table}
-use Rattle.nfg_run.specs.declared.said.Next.{Next}
-use Rattle.nfg_run.specs.declared.said.Next.TheVariants.{Free, Value, Plain}
 use Rattle.nfg_run.specs.declared.said.Said.{Said}
 
 abbrev pub line_feed : ℕ
@@ -54,22 +50,46 @@ is_count number = nat_le 1 number && nat_le number 1048576
 abbrev pub is_plain_word : List ℕ → Bool
 is_plain_word word = bytes_eq word (codes "-") || not (starts_with nat_eq word (codes "-"))
 
+-- an option that takes a value
+pub data OptionName : Type 0 where
+  Workers : OptionName
+  Table : OptionName
+
+-- what a word before `--` is, where it isn't the value of an option
+pub data WordKind : Type 0 where
+  Mark : WordKind
+  PlainWord : WordKind
+  Named : (name : OptionName) → WordKind
+  NamedWith : (name : OptionName) (value : List ℕ) → WordKind
+  Unknown : WordKind
+
+-- The mark `--`, a plain word, an option, or an option with its value. There is no other.
+abbrev pub kind_of : List ℕ → WordKind
+kind_of word =
+    if bytes_eq word (codes "--") then Mark
+    else (if is_plain_word word then PlainWord
+    else (if bytes_eq word (codes "--workers") then Named Workers
+    else (if bytes_eq word (codes "--table") then Named Table
+    else (if starts_with nat_eq word (codes "--workers=") then NamedWith Workers (drop 10 word)
+    else (if starts_with nat_eq word (codes "--table=") then NamedWith Table (drop 8 word)
+    else Unknown)))))
+
 -- nothing is said
 abbrev pub nothing_said : Said
-nothing_said = record { workers = None; places = None; next = Free; plain = [] }
+nothing_said = record { workers = None; places = None; plain = [] }
 
--- an option has a number once
-abbrev pub if_first : (earlier : Option ℕ) → Said → Option Said
+-- an option has a value once
+abbrev pub if_first : {X Y : Type 0} → (earlier : Option X) → Y → Option Y
 if_first None said = Some said
-if_first (Some number) said = None
+if_first (Some value) said = None
 
 -- the option has this number, where it has none yet
 abbrev pub with_number : Said → OptionName → Option ℕ → Option Said
 with_number said name None = None
 with_number said Workers (Some number) =
-    if_first said.workers (record { workers = Some number; places = said.places; next = Free; plain = said.plain })
+    if_first said.workers (record { workers = Some number; places = said.places; plain = said.plain })
 with_number said Table (Some number) =
-    if_first said.places (record { workers = said.workers; places = Some number; next = Free; plain = said.plain })
+    if_first said.places (record { workers = said.workers; places = Some number; plain = said.plain })
 
 -- the number that a word is as the value of the option
 abbrev pub option_number : OptionName → List ℕ → Option ℕ
@@ -82,38 +102,49 @@ with_value said name word = with_number said name (option_number name word)
 
 -- one more plain word
 abbrev pub with_plain : Said → List ℕ → Said
-with_plain said word =
-    record { workers = said.workers; places = said.places; next = said.next; plain = said.plain ++ word ∷ [] }
+with_plain said word = record { workers = said.workers; places = said.places; plain = said.plain ++ word ∷ [] }
 
--- what the next word is
-abbrev pub with_next : Said → Next → Said
-with_next said next = record { workers = said.workers; places = said.places; next = next; plain = said.plain }
+-- what the next word is: a plain word, an option or the mark; the value of an option; or a plain word, whatever it is
+pub data Next : Type 0 where
+  Free : Next
+  Value : (name : OptionName) → Next
+  Plain : Next
 
--- A word before `--` that isn't the value of an option: the mark `--`, a plain word, an option, or an
--- option with its value. No other is lawful.
-abbrev pub with_free_word : Said → List ℕ → Option Said
-with_free_word said word =
-    if bytes_eq word (codes "--") then Some (with_next said Plain)
-    else (if is_plain_word word then Some (with_plain said word)
-    else (if bytes_eq word (codes "--workers") then Some (with_next said (Value Workers))
-    else (if bytes_eq word (codes "--table") then Some (with_next said (Value Table))
-    else (if starts_with nat_eq word (codes "--workers=") then with_value said Workers (drop 10 word)
-    else (if starts_with nat_eq word (codes "--table=") then with_value said Table (drop 8 word)
-    else None)))))
+-- what is said, and a free word is next
+abbrev pub then_free : {X : Type 0} → Option X → Option (X × Next)
+then_free = option_map (λ said. (said, Free))
+
+-- a word of this kind, which isn't the value of an option, and what the next word is
+abbrev pub with_kind : WordKind → Said → List ℕ → Option (Said × Next)
+with_kind Mark said word = Some (said, Plain)
+with_kind PlainWord said word = Some (with_plain said word, Free)
+with_kind (Named name) said word = Some (said, Value name)
+with_kind (NamedWith name value) said word = then_free (with_value said name value)
+with_kind Unknown said word = None
 
 -- a word is the value of the option before it, or free; behind `--` it is plain
-abbrev pub with_word : (next : Next) → Said → List ℕ → Option Said
-with_word Free said word = with_free_word said word
-with_word (Value name) said word = with_value said name word
-with_word Plain said word = Some (with_plain said word)
+abbrev pub with_word : Next → Said → List ℕ → Option (Said × Next)
+with_word Free said word = with_kind (kind_of word) said word
+with_word (Value name) said word = then_free (with_value said name word)
+with_word Plain said word = Some (with_plain said word, Plain)
+
+-- behind the last word no option waits for its value
+abbrev pub with_no_word : {X : Type 0} → Next → X → Option X
+with_no_word Free said = Some said
+with_no_word (Value name) said = None
+with_no_word Plain said = Some said
 
 -- what is said with these words, one after the other
-unfoldable pub with_words : Said → List (List ℕ) → Option Said
-with_words said [] = Some said
-with_words said (word ∷ words) = elim (with_word said.next said word) [
+unfoldable pub with_words : Next → Said → List (List ℕ) → Option Said
+with_words next said [] = with_no_word next said
+with_words next said (word ∷ words) = elim (with_word next said word) [
   | None ↦ None
-  | Some more ↦ with_words more words
+  | Some more ↦ with_words more.1 more.0 words
 ]
+
+-- what the words after the first say, where they are lawful
+abbrev pub said_by : List (List ℕ) → Option Said
+said_by words = with_words Free nothing_said words
 
 -- what lawful words ask for
 pub data CommandLine : Type 0 where
@@ -150,24 +181,18 @@ gen_of said (seed ∷ count ∷ []) =
     gen_by said (if_passes is_seed (number_of seed)) (if_passes is_count (number_of count))
 gen_of said plain = None
 
--- an option waits for its value
-abbrev pub is_waiting : Next → Bool
-is_waiting (Value name) = true
-is_waiting next = false
-
 -- what the first word asks for with what the others say
 abbrev pub asked : List ℕ → Option Said → Option CommandLine
 asked command None = None
 asked command (Some said) =
-    if is_waiting said.next then None
-    else (if bytes_eq command (codes "run") then run_of said said.plain
+    if bytes_eq command (codes "run") then run_of said said.plain
     else (if bytes_eq command (codes "gen") then gen_of said said.plain
-    else None))
+    else None)
 
 -- what the words ask for, where they are lawful
 abbrev pub command_line : List (List ℕ) → Option CommandLine
 command_line [] = None
-command_line (command ∷ words) = asked command (with_words nothing_said words)
+command_line (command ∷ words) = asked command (said_by words)
 
 -- the path of the script to read, where there is one
 abbrev pub path_of : Option CommandLine → Option (List ℕ)

@@ -67,9 +67,6 @@ fn answer_said<F: Files>(
         → IsAnswered words (F.state files.old) (F.state files.new) given) }
     ensures untouched { IsNone (path_of (asked command.now (Some said.now))) → files.new ≡ files.old }
 {
-    if said.is_waiting() {
-        return text_answer(alloc, Status::Bad, USAGE);
-    }
     if command == "run" {
         return answer_run(alloc, files, said);
     }

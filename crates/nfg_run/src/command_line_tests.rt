@@ -65,11 +65,18 @@ fn other_words_give_the_usage(rt: HostRuntime) -> Result<(), Fail> {
         "run --=x s",
         "run --worker 1 s",
         "run --Workers 1 s",
+        "run --work=1 s",
+        "run -w s",
+        "run -é s",
         "gen -1 1",
         // a value is missing, or an option stands twice
         "run s --workers",
         "run --workers -- s",
+        "run --workers - s",
+        "run --workers -5 s",
+        "run --workers --table 16 s",
         "run --table= s",
+        "run --table==16 s",
         "run --workers 1 --workers 1 s",
         "run --table=16 s --table 16",
         // numbers

@@ -2,28 +2,9 @@
 ghost use Rattle.std.specs.Prelude.{◌≡◌, ◌≤◌, ◌<◌, ◌^◌, IsTrue, true, false, MatchOption, length, drop, nat_eq};
 ghost use Rattle.std.specs.List.{list_all, starts_with};
 ghost use Rattle.std.specs.Char.{is_ascii_digit};
-ghost use Rattle.nfg_run.specs.CommandLine.{is_plain_word as is_plain, number_of, if_passes};
-ghost use Rattle.nfg_run.specs.CommandLine.{option_number as number_of_option, is_seed as is_a_seed};
+ghost use Rattle.nfg_run.specs.CommandLine.{number_of, if_passes, is_seed as is_a_seed};
 ghost use Rattle.nfg_run.specs.CommandLine.{is_worker_count as counts_workers, is_table_size as is_size};
 ghost use Rattle.nfg_run.specs.CommandLine.{is_count as is_a_count};
-
-use crate::said::OptionName;
-
-/// Whether the word is `-` or doesn't begin with `-`.
-pub(crate) fn is_plain_word(word: &str) -> bool
-    ensures { result ≡ is_plain word.now }
-{
-    word == "-" || !word.as_bytes().starts_with(b"-")
-}
-
-/// What stands behind `start`, where the word begins with it.
-pub(crate) fn value_after<'a>(word: &'a str, start: &str) -> Option<&'a str>
-    ensures { MatchOption result (starts_with nat_eq word.now start.now ≡ false)
-        (λ value. (starts_with nat_eq word.now start.now ≡ true)
-        × (value.now ≡ drop (length start.now) word.now)) }
-{
-    word.strip_prefix(start)
-}
 
 fn has_digits(word: &str) -> bool
     ensures { result ≡ list_all is_ascii_digit word.now }
@@ -48,17 +29,8 @@ fn read_number(word: &str) -> Option<u64>
     }
 }
 
-/// The number that a word is as the value of an option.
-pub(crate) fn option_number(name: OptionName, word: &str) -> Option<u32>
-    ensures { result ≡ number_of_option name word.now }
-{
-    match name {
-        OptionName::Workers => worker_count(word),
-        OptionName::Table => table_size(word),
-    }
-}
-
-fn worker_count(word: &str) -> Option<u32>
+/// The number of workers that a word is.
+pub(crate) fn worker_count(word: &str) -> Option<u32>
     ensures { result ≡ if_passes counts_workers (number_of word.now) }
 {
     match read_number(word) {
@@ -67,7 +39,8 @@ fn worker_count(word: &str) -> Option<u32>
     }
 }
 
-fn table_size(word: &str) -> Option<u32>
+/// The places of a table that a word is.
+pub(crate) fn table_size(word: &str) -> Option<u32>
     ensures { result ≡ if_passes is_size (number_of word.now) }
 {
     match read_number(word) {

@@ -1,35 +1,20 @@
 //! What the words of the command line say.
-ghost use Rattle.std.specs.Prelude.{◌≡◌, OnOk, IsErrOf, IfOk, MatchOption, Some, None, length, drop};
-ghost use Rattle.nfg_run.specs.CommandLine.{nothing_said, with_word, with_words, with_free_word, with_value};
-ghost use Rattle.nfg_run.specs.CommandLine.{with_number, places_of, is_waiting as waits};
+ghost use Rattle.std.specs.Prelude.{◌≡◌, IfOk, IsErrOf, None, Some, codes, drop, map, option_map, string_bytes};
+ghost use Rattle.clap.specs.Words.{app_of, found_of};
 ghost use Rattle.nfg_syn.specs.Known.{IsRowSize};
-ghost use Rattle.nfg_run.specs.declared.said.Unread.{Unread};
+ghost use Rattle.nfg_run.specs.ClapCommand.{given_command};
+ghost use Rattle.nfg_run.specs.CommandLine.{Workers, Table, places_of, said_by};
+ghost use Rattle.nfg_run.specs.WordTexts.{given_number, said_in, texts_in, values_in};
 ghost use Rattle.nfg_run.specs.declared.said.Unread.TheVariants.{OutOfMemory as NoMemory};
 
 use crate::Words;
-use crate::number::{is_plain_word, option_number, value_after};
+use crate::number::{table_size, worker_count};
+use clap::error::ErrorKind;
+use clap::{Arg, ArgAction, ArgMatches, Command};
 use std::alloc::{AllocError, Global};
 
 /// The places of the table, where the words give none.
 const DEFAULT_PLACES: u32 = 1 << 18;
-
-/// An option that takes a value.
-#[derive(Clone, Copy, Debug, PartialEq, Eq)]
-pub(crate) enum OptionName {
-    Workers,
-    Table,
-}
-
-/// What the next word is.
-#[derive(Clone, Copy, Debug, PartialEq, Eq)]
-pub(crate) enum Next {
-    /// A plain word, an option or the mark `--`.
-    Free,
-    /// The value of an option.
-    Value(OptionName),
-    /// A plain word, whatever it is.
-    Plain,
-}
 
 /// Why words aren't read.
 #[derive(Clone, Copy, Debug, PartialEq, Eq)]
@@ -51,130 +36,122 @@ impl From<AllocError> for Unread {
 pub(crate) struct Said {
     pub workers: Option<u32>,
     pub places: Option<u32>,
-    pub next: Next,
     pub plain: Words,
 }
 
 impl Said {
-    fn new(alloc: Global) -> Said
-        ensures { result ≡ nothing_said }
-    {
-        Said {
-            workers: None,
-            places: None,
-            next: Next::Free,
-            plain: Words::new(alloc),
-        }
-    }
-
-    /// Whether an option waits for its value.
-    pub fn is_waiting(&self) -> bool
-        ensures { result ≡ waits self.now.next }
-    {
-        matches!(self.next, Next::Value(_))
-    }
-
     /// The places of the table.
     pub fn places(&self) -> u32
         ensures { result ≡ places_of self.now }
     {
         self.places.unwrap_or(DEFAULT_PLACES)
     }
-
-    /// One more word.
-    fn read(&mut self, word: &str) -> Result<(), Unread>
-        ensures ok { OnOk result (with_word self.old.next self.old word.now ≡ Some self.new) }
-        ensures unlawful { IsErrOf result Unread.Unlawful → with_word self.old.next self.old word.now ≡ None }
-    {
-        match self.next {
-            Next::Free => self.read_free(word),
-            Next::Value(name) => self.set(name, word),
-            Next::Plain => {
-                self.plain.push(word)?;
-                Ok(())
-            }
-        }
-    }
-
-    /// A word before the mark `--` that isn't the value of an option.
-    fn read_free(&mut self, word: &str) -> Result<(), Unread>
-        ensures ok { OnOk result (with_free_word self.old word.now ≡ Some self.new) }
-        ensures unlawful { IsErrOf result Unread.Unlawful → with_free_word self.old word.now ≡ None }
-    {
-        if word == "--" {
-            self.next = Next::Plain;
-            return Ok(());
-        }
-        if is_plain_word(word) {
-            self.plain.push(word)?;
-            return Ok(());
-        }
-        if word == "--workers" {
-            self.next = Next::Value(OptionName::Workers);
-            return Ok(());
-        }
-        if word == "--table" {
-            self.next = Next::Value(OptionName::Table);
-            return Ok(());
-        }
-        if let Some(value) = value_after(word, "--workers=") {
-            return self.set(OptionName::Workers, value);
-        }
-        if let Some(value) = value_after(word, "--table=") {
-            return self.set(OptionName::Table, value);
-        }
-        Err(Unread::Unlawful)
-    }
-
-    /// The value of an option.
-    fn set(&mut self, name: OptionName, word: &str) -> Result<(), Unread>
-        ensures ok { OnOk result (with_value self.old name word.now ≡ Some self.new) }
-        ensures unlawful { IsErrOf result Unread.Unlawful → with_value self.old name word.now ≡ None }
-    {
-        let Some(number) = option_number(name, word) else {
-            return Err(Unread::Unlawful);
-        };
-        self.set_number(name, number)
-    }
-
-    /// The number of an option, which has none yet.
-    fn set_number(&mut self, name: OptionName, number: u32) -> Result<(), Unread>
-        ensures ok { OnOk result (with_number self.old name (Some number) ≡ Some self.new) }
-        ensures unlawful { IsErrOf result Unread.Unlawful
-            → with_number self.old name (Some number) ≡ None }
-    {
-        match name {
-            OptionName::Workers => {
-                if self.workers.is_some() {
-                    return Err(Unread::Unlawful);
-                }
-                self.workers = Some(number);
-            }
-            OptionName::Table => {
-                if self.places.is_some() {
-                    return Err(Unread::Unlawful);
-                }
-                self.places = Some(number);
-            }
-        }
-        self.next = Next::Free;
-        Ok(())
-    }
 }
 
 /// What the words after the first say.
 pub(crate) fn read_words(alloc: Global, words: &Words) -> Result<Said, Unread>
-    ensures ok { IfOk result (λ said. with_words nothing_said (drop 1 words.now) ≡ Some said) }
-    ensures unlawful { IsErrOf result Unread.Unlawful
-        → with_words nothing_said (drop 1 words.now) ≡ None }
+    ensures ok { IfOk result (λ said. said_by (drop 1 words.now) ≡ Some said) }
+    ensures unlawful { IsErrOf result Unread.Unlawful → said_by (drop 1 words.now) ≡ None }
     ensures size { IfOk result (λ said. IsRowSize (places_of said)) }
 {
-    let mut said = Said::new(alloc);
-    'reading: for k in 1..words.len() {
-        match said.read(words.get(k)) {
-            Ok(()) => {}
-            Err(error) => return Err(error),
-        }
+    let matches = parse_words(alloc, words.as_slice())?;
+    read_matches(alloc, &matches)
+}
+
+/// The options and the plain words, as texts. The first word isn't looked at.
+fn parse_words<'a>(alloc: Global, words: &'a [String]) -> Result<ArgMatches<'a>, Unread>
+    ensures ok { IfOk result (λ matches. said_by (drop 1 (map string_bytes words.entry.now))
+        ≡ said_in (texts_in (found_of matches))) }
+    ensures unlawful { IsErrOf result Unread.Unlawful
+        → said_by (drop 1 (map string_bytes words.entry.now)) ≡ None }
+{
+    let command = command(alloc)?;
+    match command.try_get_matches_from(words) {
+        Ok(matches) => Ok(matches),
+        Err(error) => match error.kind() {
+            ErrorKind::OutOfMemory => Err(Unread::OutOfMemory),
+            _ => Err(Unread::Unlawful),
+        },
     }
-    Ok(said)
+}
+
+/// The two options, and plain words. Help isn't an option.
+fn command<'a>(alloc: Global) -> Result<Command<'a>, AllocError>
+    ensures { IfOk result (λ command. app_of command ≡ given_command) }
+{
+    let workers = Arg::new(alloc, "workers")
+        .long("workers")
+        .action(ArgAction::Set);
+    let table = Arg::new(alloc, "table")
+        .long("table")
+        .action(ArgAction::Set);
+    let plain = Arg::new(alloc, "plain").action(ArgAction::Append);
+    let bare = Command::new(alloc, "nfg").disable_help_flag(true);
+    bare.arg(workers)?.arg(table)?.arg(plain)
+}
+
+/// What the matches say.
+fn read_matches(alloc: Global, matches: &ArgMatches<'_>) -> Result<Said, Unread>
+    ensures ok { IfOk result (λ said. said_in (texts_in (found_of matches.now)) ≡ Some said) }
+    ensures unlawful { IsErrOf result Unread.Unlawful → said_in (texts_in (found_of matches.now)) ≡ None }
+    ensures size { IfOk result (λ said. IsRowSize (places_of said)) }
+{
+    let Some(workers) = given_workers(matches.get_str("workers")) else {
+        return Err(Unread::Unlawful);
+    };
+    let Some(places) = given_places(matches.get_str("table")) else {
+        return Err(Unread::Unlawful);
+    };
+    let plain = plain_words(alloc, matches)?;
+    Ok(Said {
+        workers,
+        places,
+        plain,
+    })
+}
+
+/// The number of workers, where its text is lawful or not given.
+fn given_workers(text: Option<&str>) -> Option<Option<u32>>
+    ensures { result ≡ given_number Workers (option_map (λ t. t.now) text.entry) }
+{
+    match text {
+        None => Some(None),
+        Some(text) => match worker_count(text) {
+            Some(number) => Some(Some(number)),
+            None => None,
+        },
+    }
+}
+
+/// The places of the table, where their text is lawful or not given.
+fn given_places(text: Option<&str>) -> Option<Option<u32>>
+    ensures { result ≡ given_number Table (option_map (λ t. t.now) text.entry) }
+{
+    match text {
+        None => Some(None),
+        Some(text) => match table_size(text) {
+            Some(number) => Some(Some(number)),
+            None => None,
+        },
+    }
+}
+
+/// The plain words, in order.
+fn plain_words(alloc: Global, matches: &ArgMatches<'_>) -> Result<Words, AllocError>
+    ensures { IfOk result (λ words. words ≡ values_in (found_of matches.now) (codes "plain")) }
+{
+    match matches.get_raw("plain") {
+        None => Ok(Words::new(alloc)),
+        Some(texts) => words_of(alloc, texts),
+    }
+}
+
+fn words_of(alloc: Global, texts: &[&str]) -> Result<Words, AllocError>
+    ensures { IfOk result (λ words. words ≡ map (λ t. t.now) texts.now) }
+{
+    let mut words = Words::new(alloc);
+    for text in texts {
+        words.push(text)?;
+    }
+    Ok(words)
 }

@@ -1,5 +1,5 @@
 //! The words of the command line.
-ghost use Rattle.std.specs.Prelude.{◌≡◌, ◌<◌, ◌++◌, ◌∷◌, [], length, OnOk, OnErr, slice_index_or};
+ghost use Rattle.std.specs.Prelude.{◌≡◌, ◌<◌, ◌++◌, ◌∷◌, [], length, map, string_bytes, OnOk, OnErr, slice_index_or};
 
 use std::alloc::{AllocError, Global};
 use std::marker::Model;
@@ -53,5 +53,12 @@ impl Words {
         ensures { result.now ≡ slice_index_or self.now k [] }
     {
         self.words[k].as_str()
+    }
+
+    /// The words, one after the other.
+    pub(crate) fn as_slice(&self) -> &[String]
+        ensures { map string_bytes result.now ≡ self.now }
+    {
+        self.words.as_slice()
     }
 }
