@@ -1,0 +1,4 @@
+pub mod IdFacts
+pub mod IdTable
+pub mod Proved
+pub mod Writing

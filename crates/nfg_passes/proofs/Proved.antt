@@ -1,0 +1,2 @@
+-- The laws of `specs`, each under the name of its definition: what proofs of other crates cite.
+pub use Rattle.nfg_passes.proofs.IdFacts.{ids_tell, marks_rise}

@@ -1,0 +1,8 @@
+//! Flat passes over a text: ids of its code points, whether it is its own NFC, and where its clusters end.
+#![tactic(auto)]
+
+mod id_table;
+mod ids;
+pub mod laws;
+
+pub use ids::{id_of, ids_of};
