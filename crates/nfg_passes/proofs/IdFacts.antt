@@ -1,7 +1,6 @@
 -- What an id tells of its code points.
-use Rattle.std.proofs.Common.{◌≡◌, ℕ, ◌<◌, ◌≤◌, suc, ◌/◌, ◌%◌, Bool, true, false, not, ◌&&◌, ◌||◌, ◌==◌, nat_lt, nat_le, slice_index, refl, sym, ap, ◌∙◌, arith, eqb-true, ltb-true, leb-true, le-ltb}
+use Rattle.std.proofs.Common.{◌≡◌, ℕ, suc, ◌/◌, ◌%◌, Bool, true, ◌&&◌, ◌||◌, ◌==◌, nat_lt, nat_le, slice_index, refl, sym, ap, ◌∙◌, arith, eqb-true, ltb-true, leb-true, le-ltb}
 use Rattle.std.specs.Bool.{beq}
-use Rattle.std.specs.List.{position_or_len}
 use Rattle.ucd_breaks.specs.GraphemeClusterBreak.{grapheme_cluster_break, grapheme_cluster_break_number, grapheme_cluster_break_from_number}
 use Rattle.ucd_breaks.proofs.GraphemeClusterBreakLemmas.{grapheme_cluster_break_stepped, grapheme_cluster_break_from_number-grapheme_cluster_break_number}
 use Rattle.ucd_derived.specs.IndicConjunctBreak.{indic_conjunct_break, indic_conjunct_break_number, indic_conjunct_break_from_number}
@@ -15,11 +14,11 @@ use Rattle.ucd_normal.proofs.CanonicalCombiningClassLemmas.{canonical_combining_
 use Rattle.ucd_normal.proofs.QuickCheckLemmas.{quick_check_stepped}
 use Rattle.ucd_table.proofs.Computing.{tables}
 use Rattle.ucd_table.proofs.Facts.{same_from_beq, Stepped-everywhere}
-use Rattle.ucd_table.proofs.Stepped.{Stepped, map_stepped, zip_stepped}
+use Rattle.ucd_table.proofs.Stepped.{map_stepped, zip_stepped}
 use Rattle.ucd_table.proofs.TrieCheck.{all_below, all_below-at}
 use Rattle.nfg_text.specs.Graphemes.{is_yes, starts_safely}
 use Rattle.nfg_passes.specs.Attributes.{attributes, attributes_in_order}
-use Rattle.nfg_passes.specs.Ids.{id_number, attributes_of_id, combining_class_of_id, IsToldById, IdsTell, MarksRise}
+use Rattle.nfg_passes.specs.Ids.{id_number, attributes_of_id, combining_class_of_id, IdsTell, MarksRise}
 use Rattle.nfg_passes.proofs.IdTable.{rules_stepped, attributes_stepped, ids_stepped, place_of}
 
 -- ---- the attributes

@@ -1,8 +1,15 @@
-//! What ids tell. Each function does nothing: its clauses are what holds.
+//! What ids tell, and what follows of texts. Each function does nothing: its clauses are what holds.
 ghost use Rattle.nfg_passes.specs.Ids.{IdsTell, MarksRise};
+ghost use Rattle.nfg_passes.specs.Unsettled.{SettledTextsStay, SettledTextsStayBehind};
 
 /// An id tells what the rules of clusters and the normal form read of a code point.
 pub fn ids_tell()
     ensures tell { IdsTell }
     ensures rise { MarksRise }
+{}
+
+/// A text without an unsettled place is its own NFC, and stays so behind another where it begins with a safe start.
+pub fn settled_texts_stay()
+    ensures alone { SettledTextsStay }
+    ensures behind { SettledTextsStayBehind }
 {}

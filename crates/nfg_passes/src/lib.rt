@@ -4,5 +4,7 @@
 mod id_table;
 mod ids;
 pub mod laws;
+mod unsettled;
 
 pub use ids::{id_of, ids_of};
+pub use unsettled::first_unsettled;
