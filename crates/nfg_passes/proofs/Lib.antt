@@ -3,5 +3,8 @@ pub mod IdFacts
 pub mod IdTable
 pub mod LaneFacts
 pub mod Proved
+pub mod RowFacts
+pub mod Runs
 pub mod Settled
+pub mod StateFacts
 pub mod Writing

@@ -1,10 +1,13 @@
 //! Flat passes over a text: ids of its code points, whether it is its own NFC, and where its clusters end.
 #![tactic(auto)]
 
+mod automaton;
 mod id_table;
 mod ids;
 pub mod laws;
+mod rows;
 mod unsettled;
 
+pub use automaton::{START, mark_breaks};
 pub use ids::{id_of, ids_of};
 pub use unsettled::first_unsettled;

@@ -1,0 +1,90 @@
+-- A state holds what the rules read of the text before a place.
+use Rattle.std.proofs.Common.{◌≡◌, ℕ, ◌+◌, ◌*◌, ◌<◌, true, not, ◌&&◌, ◌||◌, List, [], ◌∷◌, map, unwrap_or, refl, sym, ap, ap₂, subst, ◌∙◌, lit<}
+use Rattle.ucd_breaks.specs.GraphemeClusterBreak.{grapheme_cluster_break}
+use Rattle.ucd_breaks.specs.declared.GraphemeClusterBreak.{GraphemeClusterBreak}
+use Rattle.ucd_breaks.specs.declared.GraphemeClusterBreak.TheVariants.{Control}
+use Rattle.ucd_derived.specs.IndicConjunctBreak.{indic_conjunct_break}
+use Rattle.ucd_derived.specs.declared.IndicConjunctBreak.{IndicConjunctBreak}
+use Rattle.ucd_derived.specs.declared.IndicConjunctBreak.TheVariants.{Linker, Extend}
+use Rattle.unicode_segmentation.specs.Grapheme.{break_by_pair, ends_in_linker, ends_in_pictograph, ends_in_half_flag, is_consonant, is_extend, is_zwj, is_regional, is_grapheme_break}
+use Rattle.nfg_text.specs.Breaks.{is_linked_after}
+use Rattle.nfg_text.specs.Properties.{bit}
+use Rattle.nfg_passes.specs.Ids.{id_number, class_of_id}
+use Rattle.nfg_passes.specs.States.{LookBack, look_back, state_of, state_after}
+use Rattle.nfg_passes.proofs.IdFacts.{ids_tell}
+use Rattle.nfg_passes.proofs.RowFacts.{row_holds-at, row_at, seen_at, left_at, seen_then, next_state, joins_by_id, breaks_by_id}
+
+-- the rules on neighbors take a class for that of the last code point, where there is one
+abbrev StandsForLast : GraphemeClusterBreak → List ℕ → Type 0
+StandsForLast left [] = left ≡ Control
+StandsForLast left (last ∷ before) = (next : GraphemeClusterBreak) → break_by_pair true left next ≡ break_by_pair true (grapheme_cluster_break last) next
+
+record IsShown (before : List ℕ) : Type 0 where
+  bound : state_after before < 13
+  seen : seen_at (state_after before) ≡ look_back before
+  left : StandsForLast (left_at (state_after before)) before
+
+same_look_back : (a b : LookBack) → a.linker ≡ b.linker → a.pictograph ≡ b.pictograph → a.joiner ≡ b.joiner → a.flag ≡ b.flag → a ≡ b
+same_look_back a b l p j f =
+    λ i. record { linker = l i; pictograph = p i; joiner = j i; flag = f i }
+
+linked : (v : IndicConjunctBreak) (vs : List IndicConjunctBreak) → ends_in_linker (v ∷ vs) ≡ is_linked_after v (ends_in_linker vs)
+unfolding ends_in_linker
+linked Linker vs = refl
+linked Extend vs = refl
+linked _ vs = refl
+
+-- what is seen with a next code point
+look_back-cons : (c : ℕ) (before : List ℕ) → look_back (c ∷ before) ≡ seen_then (look_back before) (id_number c)
+unfolding ends_in_pictograph ends_in_half_flag
+look_back-cons c before =
+    let told = ids_tell c in
+    same_look_back _ _
+    (linked (indic_conjunct_break c) (map indic_conjunct_break before) ∙ ap (λ v. is_linked_after v (ends_in_linker (map indic_conjunct_break before))) (sym told.conjunct))
+    (ap₂ (λ p v. p || (is_extend v && ends_in_pictograph before)) (sym told.pictograph) (sym told.class))
+    (ap (λ v. is_zwj v && ends_in_pictograph before) (sym told.class))
+    (ap (λ v. is_regional v && not (ends_in_half_flag before)) (sym told.class))
+
+state_after-cons : (c : ℕ) (before : List ℕ) → seen_at (state_after before) ≡ look_back before → state_after (c ∷ before) ≡ next_state (state_after before) (id_number c)
+state_after-cons c before seen =
+    ap₂ state_of (sym (ids_tell c).class) (look_back-cons c before ∙ ap (λ s. seen_then s (id_number c)) (sym seen))
+
+shown : (before : List ℕ) → IsShown before
+unfolding ends_in_linker ends_in_pictograph ends_in_half_flag
+shown [] = record { bound = lit< tt; seen = refl; left = refl }
+shown (c ∷ before) =
+    let so_far = shown before in
+    let holds = row_holds-at (state_after before) (id_number c) so_far.bound (ids_tell c).bound in
+    let next = state_after-cons c before so_far.seen in
+    record {
+      bound = subst (λ s. s < 13) (sym next) holds.bound;
+      seen =
+          ap seen_at next ∙ same_look_back _ _ holds.linker holds.pictograph holds.joiner holds.flag
+          ∙ ap (λ s. seen_then s (id_number c)) so_far.seen ∙ sym (look_back-cons c before);
+      left = λ v. ap (λ s. break_by_pair true (left_at s) v) next ∙ holds.left v ∙ ap (λ k. break_by_pair true k v) (ids_tell c).class;
+    }
+
+pub state_below : (before : List ℕ) → state_after before < 13
+state_below before = (shown before).bound
+
+breaks_by : (before : List ℕ) (c : ℕ) (after : List ℕ) → seen_at (state_after before) ≡ look_back before → StandsForLast (left_at (state_after before)) before
+    → breaks_by_id (state_after before) (id_number c) ≡ is_grapheme_break true before (c ∷ after)
+unfolding is_grapheme_break
+breaks_by [] c after seen left = ap (λ k. unwrap_or (break_by_pair true k (class_of_id (id_number c))) (not (joins_by_id (seen_at 0) (id_number c)))) left
+breaks_by (last ∷ before) c after seen left =
+    let told = ids_tell c in
+    ap₂ unwrap_or (left (class_of_id (id_number c)) ∙ ap (break_by_pair true (grapheme_cluster_break last)) told.class)
+    (ap not (ap (λ s. joins_by_id s (id_number c)) seen
+    ∙ ap₂ (λ j f. j || f)
+    (ap₂ (λ v p. ((look_back (last ∷ before)).linker && is_consonant v) || ((look_back (last ∷ before)).joiner && p)) told.conjunct told.pictograph)
+    (ap (λ v. (look_back (last ∷ before)).flag && is_regional v) told.class)))
+
+-- the value in the rows: the state with the next code point, and whether the rules put a boundary before it
+pub row_gives : (before : List ℕ) (c : ℕ) (after : List ℕ) → row_at (state_after before) (id_number c) ≡ state_after (c ∷ before) + 16 * bit (is_grapheme_break true before (c ∷ after))
+row_gives before c after =
+    let so_far = shown before in
+    let holds = row_holds-at (state_after before) (id_number c) so_far.bound (ids_tell c).bound in
+    holds.value ∙ ap₂ (λ s b. s + 16 * bit b) (sym (state_after-cons c before so_far.seen)) (breaks_by before c after so_far.seen so_far.left)
+
+pub row_again : (before : List ℕ) (c : ℕ) → row_at (state_after before + 16) (id_number c) ≡ row_at (state_after before) (id_number c)
+row_again before c = (row_holds-at (state_after before) (id_number c) (shown before).bound (ids_tell c).bound).again
