@@ -1,6 +1,9 @@
 -- The lanes of a block of ids that are unsettled.
-use Rattle.std.proofs.Common.{◌≡◌, ℕ, zero, suc, ◌-◌, ◌<◌, Bool, true, false, cond, leb, ltb, ◌||◌, ◌&&◌, nat_lt, List, [], ◌∷◌, get_or, length, replicate, take, drop, refl, sym, ap, ap₂, ◌∙◌, arith, le-ltb, zero-le}
-use Rattle.nfg_passes.specs.Unsettled.{is_unsettled, unsettled_marks}
+use Rattle.std.proofs.Common.{map, not, ◌≤◌, ◌≡◌, ℕ, zero, suc, ◌-◌, ◌<◌, Bool, true, false, cond, leb, ltb, ◌||◌, ◌&&◌, nat_lt, List, [], ◌∷◌, get_or, length, replicate, take, drop, refl, sym, ap, ap₂, ◌∙◌, arith, le-ltb, zero-le}
+use Rattle.std.proofs.lemmas.List.{length-map}
+use Rattle.std.proofs.lemmas.List.Sums.{prefix_len-le-length}
+use Rattle.nfg_passes.specs.Ids.{id_number}
+use Rattle.nfg_passes.specs.Unsettled.{is_unsettled, unsettled_marks, first_unsettled, IsSettled}
 use Rattle.std.proofs.lemmas.Simd.{get_or-zip2}
 use lib.Lanes.{chunk, sel_l, zip2}
 
@@ -63,3 +66,10 @@ unsettled_mark ids (suc k) follows inside =
   where
     less : k ≡ suc k - 1
     less = omega arith
+
+-- no place of a text is unsettled where the first is not below the length
+pub settled_from_length : (t ids : List ℕ) (first : ℕ) → ids ≡ map id_number t → first ≡ first_unsettled ids → length ids ≤ first → IsSettled t
+settled_from_length t ids first of_text is past =
+    let most = prefix_len-le-length (λ mark. not mark) (unsettled_marks (map id_number t)) in
+    let found : first ≡ first_unsettled (map id_number t) = is ∙ ap first_unsettled of_text in
+    omega (arith, found, past, ap length of_text, length-map t id_number, most, length-unsettled_marks (map id_number t))

@@ -1,4 +1,5 @@
 pub mod BlockRuns
+pub mod Ends
 pub mod IdFacts
 pub mod IdTable
 pub mod LaneFacts

@@ -55,9 +55,6 @@ joins_by_id seen id =
 abbrev pub breaks_by_id : ℕ → ℕ → Bool
 breaks_by_id s id = unwrap_or (break_by_pair true (left_at s) (class_of_id id)) (not (joins_by_id (seen_at s) id))
 
-abbrev pub row_at : ℕ → ℕ → ℕ
-row_at value id = slice_index ROWS (id * 32 + value)
-
 same_rules : GraphemeClusterBreak → GraphemeClusterBreak → ℕ → Bool
 same_rules a b n =
     rule_number (break_by_pair true a (grapheme_cluster_break_from_number n)) == rule_number (break_by_pair true b (grapheme_cluster_break_from_number n))
@@ -69,7 +66,7 @@ same_seen a b = beq a.linker b.linker && (beq a.pictograph b.pictograph && (beq 
 row_holds : ℕ → ℕ → Bool
 row_holds id s =
     let next = next_state s id in
-    ((row_at s id == next + 16 * bit (breaks_by_id s id)) && (row_at (s + 16) id == row_at s id))
+    ((slice_index ROWS (id * 32 + s) == next) && (slice_index ROWS (id * 32 + 16 + s) == bit (breaks_by_id s id)))
     && (nat_lt next 13 && (same_seen (seen_at next) (seen_then (seen_at s) id) && all_below (same_rules (left_at next) (class_of_id id)) 14))
 
 rows_hold : all_below (λ id. all_below (row_holds id) 13) 88 ≡ true
@@ -89,8 +86,8 @@ rule_from_number (Some false) (Some false) same = refl
 
 -- the same, as facts
 pub record RowHolds (s id : ℕ) : Type 0 where
-  pub value : row_at s id ≡ next_state s id + 16 * bit (breaks_by_id s id)
-  pub again : row_at (s + 16) id ≡ row_at s id
+  pub next : slice_index ROWS (id * 32 + s) ≡ next_state s id
+  pub break : slice_index ROWS (id * 32 + 16 + s) ≡ bit (breaks_by_id s id)
   pub bound : next_state s id < 13
   pub linker : (seen_at (next_state s id)).linker ≡ (seen_then (seen_at s) id).linker
   pub pictograph : (seen_at (next_state s id)).pictograph ≡ (seen_then (seen_at s) id).pictograph
@@ -110,8 +107,8 @@ row_holds-at s id state known =
     let second = and_parts _ _ first.1 in
     let third = and_parts _ _ second.1 in
     record {
-      value = eqb-true _ _ values.0;
-      again = eqb-true _ _ values.1;
+      next = eqb-true _ _ values.0;
+      break = eqb-true _ _ values.1;
       bound = ltb-true _ _ rest.0;
       linker = same_from_beq _ _ first.0;
       pictograph = same_from_beq _ _ second.0;
@@ -123,10 +120,10 @@ row_holds-at s id state known =
           subst (λ v. break_by_pair true (left_at (next_state s id)) v ≡ break_by_pair true (class_of_id id) v) (grapheme_cluster_break_from_number-grapheme_cluster_break_number next) same;
     }
 
--- ---- no value in the rows is beyond them
+-- ---- a state is below 16
 
-values_small : list_all (λ value. nat_lt value 32) ROWS ≡ true
-values_small = refl
+states_small : list_all (λ entry. nat_lt entry 16) ROWS ≡ true
+states_small = refl
 
-pub row_small : (k : ℕ) → k < 4096 → slice_index ROWS k < 32
-row_small k inside = ltb-true _ _ (All-get_or (λ value. nat_lt value 32 ≡ true) ROWS k 0 inside (AllPass-from_list_all (λ value. nat_lt value 32) ROWS values_small))
+pub entry_small : (k : ℕ) → k < 4096 → slice_index ROWS k < 16
+entry_small k inside = ltb-true _ _ (All-get_or (λ entry. nat_lt entry 16 ≡ true) ROWS k 0 inside (AllPass-from_list_all (λ entry. nat_lt entry 16) ROWS states_small))

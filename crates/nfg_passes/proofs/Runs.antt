@@ -1,82 +1,87 @@
 -- A run of the automaton over a text gives the marks of the text, and the state after it.
-use Rattle.std.proofs.Common.{◌≡◌, ℕ, ◌+◌, ◌*◌, ◌/◌, ◌%◌, ◌<◌, ◌⊎◌, Bool, true, false, List, [], ◌∷◌, ◌++◌, map, reverse, slice_index, refl, sym, ap, ap₂, subst, ◌∙◌, arith, inl, inr, append_assoc}
-use Rattle.std.proofs.lemmas.List.{reverse-append}
-use Rattle.unicode_segmentation.specs.Grapheme.{is_grapheme_break}
-use Rattle.nfg_text.specs.Properties.{bit}
+use Rattle.std.proofs.Common.{◌≡◌, ℕ, ◌+◌, ◌*◌, ◌%◌, ◌<◌, List, [], ◌∷◌, ◌++◌, length, get_or, take, drop, map, replicate, reverse, slice_index, w8, refl, sym, ap, ap₂, subst, ◌∙◌, arith, append_assoc}
+use Rattle.std.proofs.lemmas.List.{drop_more, reverse-append, ext_get_or}
+use Rattle.std.proofs.lemmas.Nat.{mod_below}
+use Rattle.std.proofs.lemmas.Simd.{swz_l, length-swz_l, get_or-swz_l_below, length-replicate, get_or-replicate}
 use Rattle.nfg_passes.specs.Ids.{id_number}
 use Rattle.nfg_passes.specs.Marks.{marks_after}
-use Rattle.nfg_passes.specs.Rows.{row_value}
+use Rattle.nfg_passes.specs.Rows.{HoldsState, next_in_rows, break_in_rows}
 use Rattle.nfg_passes.specs.States.{state_after}
 use Rattle.nfg_passes.specs.declared.rows.TheConstants.{ROWS}
-use Rattle.nfg_passes.proofs.IdFacts.{ids_tell}
-use Rattle.nfg_passes.proofs.StateFacts.{row_gives, row_again, state_below}
+use Rattle.nfg_passes.proofs.RowFacts.{entry_small}
+use Rattle.nfg_passes.proofs.StateFacts.{next_gives, break_gives, state_below}
+
+-- ---- one step
+
+-- a table looked up by a vector with one number in all lanes
+pub swz_l-replicate : (xs : List ℕ) (s : ℕ) → s < 16 → swz_l w8 16 xs 0 (replicate 16 s) ≡ replicate 16 (get_or xs s 0)
+swz_l-replicate xs s small =
+    let long = length-swz_l w8 16 xs 0 (replicate 16 s) ∙ length-replicate 16 s in
+    ext_get_or 0 (swz_l w8 16 xs 0 (replicate 16 s)) (replicate 16 (get_or xs s 0)) (long ∙ sym (length-replicate 16 (get_or xs s 0))) (λ m inside.
+    let lane : m < 16 = omega (arith, inside, long) in
+    let here = get_or-replicate 16 m s 0 lane in
+    get_or-swz_l_below w8 16 xs 0 (replicate 16 s) m (omega (arith, inside, long)) (subst (λ j. j < 16) (sym here) small)
+    ∙ ap (λ k. get_or xs k 0) (omega (arith, here, lane)) ∙ sym (get_or-replicate 16 m (get_or xs s 0) 0 lane))
+
+-- what the first lane of such a vector holds
+pub first_lane : (lanes : List ℕ) (s x : ℕ) → lanes ≡ replicate 16 s → x ≡ get_or lanes 0 x → x ≡ s
+first_lane lanes s x all is = is ∙ ap (λ l. get_or l 0 x) all
+
+-- the vector of the next state, and the mark
+pub holds_next : (lanes : List ℕ) (state id : ℕ) → state < 16 → lanes ≡ replicate 16 (slice_index ROWS (id % 128 * 32 + state))
+    → HoldsState lanes (get_or lanes 0 0) × (get_or lanes 0 0 ≡ next_in_rows state id)
+unfolding next_in_rows
+holds_next lanes state id small all =
+    let entry = slice_index ROWS (id % 128 * 32 + state) in
+    let first : get_or lanes 0 0 ≡ entry = ap (λ l. get_or l 0 0) all in
+    let below : entry < 16 = entry_small (id % 128 * 32 + state) (omega (arith, small, mod_below id 128 (omega arith))) in
+    (record { small = omega (arith, first, below); all = all ∙ ap (replicate 16) (sym first) }, first)
+
+pub mark_is : (lanes : List ℕ) (state id x : ℕ) → lanes ≡ replicate 16 (slice_index ROWS (id % 128 * 32 + 16 + state)) → x ≡ get_or lanes 0 x → x ≡ break_in_rows state id
+unfolding break_in_rows
+mark_is lanes state id x all is = first_lane lanes (slice_index ROWS (id % 128 * 32 + 16 + state)) x all is
+
+-- ---- all steps
 
 -- the marks that the rows give
 abbrev pub marks_run : ℕ → List ℕ → List ℕ
-marks_run value [] = []
-marks_run value (id ∷ ids) = let next = row_value value id in (next / 16) ∷ marks_run next ids
+marks_run state [] = []
+marks_run state (id ∷ ids) = break_in_rows state id ∷ marks_run (next_in_rows state id) ids
 
--- the last value
-abbrev pub last_value : ℕ → List ℕ → ℕ
-last_value value [] = value
-last_value value (id ∷ ids) = last_value (row_value value id) ids
+-- the last state
+abbrev pub last_state : ℕ → List ℕ → ℕ
+last_state state [] = state
+last_state state (id ∷ ids) = last_state (next_in_rows state id) ids
 
--- the value is the state after the text, or 16 more
-abbrev IsValueAfter : ℕ → List ℕ → Type 0
-IsValueAfter value before = (value ≡ state_after before) ⊎ (value ≡ state_after before + 16)
-
-known : (c : ℕ) → id_number c % 128 ≡ id_number c
-known c = omega (arith, (ids_tell c).bound)
-
-value_gives : (value : ℕ) (before : List ℕ) (c : ℕ) (after : List ℕ) → IsValueAfter value before
-    → row_value value (id_number c) ≡ state_after (c ∷ before) + 16 * bit (is_grapheme_break true before (c ∷ after))
-unfolding row_value
-value_gives value before c after (inl plain) =
-    ap₂ (λ id v. slice_index ROWS (id * 32 + v)) (known c) plain ∙ row_gives before c after
-value_gives value before c after (inr broken) =
-    ap₂ (λ id v. slice_index ROWS (id * 32 + v)) (known c) broken ∙ row_again before c ∙ row_gives before c after
-
-mark_in : (state : ℕ) (broken : Bool) → state < 13 → (state + 16 * bit broken) / 16 ≡ bit broken
-mark_in state true small = omega (arith, small)
-mark_in state false small = omega (arith, small)
-
-state_in : (value state : ℕ) (broken : Bool) → value ≡ state + 16 * bit broken → (value ≡ state) ⊎ (value ≡ state + 16)
-state_in value state true is = inr is
-state_in value state false is = inl (omega (arith, is))
-
-next_value : (value : ℕ) (before : List ℕ) (c : ℕ) (after : List ℕ) → IsValueAfter value before → IsValueAfter (row_value value (id_number c)) (c ∷ before)
-next_value value before c after so_far =
-    state_in (row_value value (id_number c)) (state_after (c ∷ before)) (is_grapheme_break true before (c ∷ after)) (value_gives value before c after so_far)
-
-marks_by_run : (value : ℕ) (before t : List ℕ) → IsValueAfter value before → marks_run value (map id_number t) ≡ marks_after before t
+marks_by_run : (before t : List ℕ) → marks_run (state_after before) (map id_number t) ≡ marks_after before t
 unfolding marks_after
-marks_by_run value before [] so_far = refl
-marks_by_run value before (c ∷ t) so_far =
-    ap₂ (λ mark marks. mark ∷ marks)
-    (ap (λ v. v / 16) (value_gives value before c t so_far) ∙ mark_in (state_after (c ∷ before)) (is_grapheme_break true before (c ∷ t)) (state_below (c ∷ before)))
-    (marks_by_run (row_value value (id_number c)) (c ∷ before) t (next_value value before c t so_far))
+marks_by_run before [] = refl
+marks_by_run before (c ∷ t) =
+    ap₂ (λ mark marks. mark ∷ marks) (break_gives before c t) (ap (λ s. marks_run s (map id_number t)) (next_gives before c) ∙ marks_by_run (c ∷ before) t)
 
-last_by_run : (value : ℕ) (before t : List ℕ) → IsValueAfter value before → IsValueAfter (last_value value (map id_number t)) (reverse t ++ before)
-last_by_run value before [] so_far = so_far
-last_by_run value before (c ∷ t) so_far =
+last_by_run : (before t : List ℕ) → last_state (state_after before) (map id_number t) ≡ state_after (reverse t ++ before)
+last_by_run before [] = refl
+last_by_run before (c ∷ t) =
     let onto : reverse t ++ c ∷ before ≡ reverse (c ∷ t) ++ before =
     sym (append_assoc (reverse t) (c ∷ []) before) ∙ ap (λ l. l ++ before) (sym (reverse-append (c ∷ []) t)) in
-    subst (IsValueAfter (last_value value (map id_number (c ∷ t)))) onto
-    (last_by_run (row_value value (id_number c)) (c ∷ before) t (next_value value before c t so_far))
+    ap (λ s. last_state s (map id_number t)) (next_gives before c) ∙ last_by_run (c ∷ before) t ∙ ap state_after onto
 
--- ---- what a call is told
-
-started : (state : ℕ) (before : List ℕ) → state ≡ state_after before → IsValueAfter (state % 16) before
-started state before is = inl (omega (arith, is, state_below before))
+started : (state : ℕ) (before : List ℕ) → state ≡ state_after before → state % 16 ≡ state_after before
+started state before is = omega (arith, is, state_below before)
 
 pub run_marks : (state : ℕ) (ids before t : List ℕ) → state ≡ state_after before → ids ≡ map id_number t → marks_run (state % 16) ids ≡ marks_after before t
-run_marks state ids before t is of_text = ap (marks_run (state % 16)) of_text ∙ marks_by_run (state % 16) before t (started state before is)
+run_marks state ids before t is of_text = ap₂ marks_run (started state before is) of_text ∙ marks_by_run before t
 
-pub run_state : (state : ℕ) (ids before t : List ℕ) → state ≡ state_after before → ids ≡ map id_number t → last_value (state % 16) ids % 16 ≡ state_after (reverse t ++ before)
-run_state state ids before t is of_text =
-    ap (λ l. last_value (state % 16) l % 16) of_text
-    ∙ state_of_value (last_value (state % 16) (map id_number t)) (state_after (reverse t ++ before)) (state_below (reverse t ++ before)) (last_by_run (state % 16) before t (started state before is))
-  where
-    state_of_value : (value state : ℕ) → state < 13 → (value ≡ state) ⊎ (value ≡ state + 16) → value % 16 ≡ state
-    state_of_value value state small (inl plain) = omega (arith, plain, small)
-    state_of_value value state small (inr broken) = omega (arith, broken, small)
+pub run_state : (state : ℕ) (ids before t : List ℕ) → state ≡ state_after before → ids ≡ map id_number t → last_state (state % 16) ids ≡ state_after (reverse t ++ before)
+run_state state ids before t is of_text = ap₂ last_state (started state before is) of_text ∙ last_by_run before t
+
+-- one more step of the loop
+pub run_more : (ids into whole : List ℕ) (i state x next : ℕ) → i < length ids → x ≡ break_in_rows state (get_or ids i 0) → next ≡ next_in_rows state (get_or ids i 0)
+    → take i into ++ marks_run state (drop i ids) ≡ whole → take i into ++ x ∷ marks_run next (drop (i + 1) ids) ≡ whole
+run_more ids into whole i state x next inside marked moved so_far =
+    ap₂ (λ m n. take i into ++ m ∷ marks_run n (drop (i + 1) ids)) marked moved
+    ∙ ap (λ l. take i into ++ marks_run state l) (sym (drop_more ids i 0 inside)) ∙ so_far
+
+pub last_more : (ids : List ℕ) (i state next whole : ℕ) → i < length ids → next ≡ next_in_rows state (get_or ids i 0) → last_state state (drop i ids) ≡ whole → last_state next (drop (i + 1) ids) ≡ whole
+last_more ids i state next whole inside moved so_far =
+    ap (λ n. last_state n (drop (i + 1) ids)) moved ∙ ap (last_state state) (sym (drop_more ids i 0 inside)) ∙ so_far

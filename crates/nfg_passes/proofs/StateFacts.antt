@@ -1,5 +1,5 @@
 -- A state holds what the rules read of the text before a place.
-use Rattle.std.proofs.Common.{◌≡◌, ℕ, ◌+◌, ◌*◌, ◌<◌, true, not, ◌&&◌, ◌||◌, List, [], ◌∷◌, map, unwrap_or, refl, sym, ap, ap₂, subst, ◌∙◌, lit<}
+use Rattle.std.proofs.Common.{◌≡◌, ℕ, ◌+◌, ◌*◌, ◌<◌, ◌%◌, slice_index, arith, true, not, ◌&&◌, ◌||◌, List, [], ◌∷◌, map, unwrap_or, refl, sym, ap, ap₂, subst, ◌∙◌, lit<}
 use Rattle.ucd_breaks.specs.GraphemeClusterBreak.{grapheme_cluster_break}
 use Rattle.ucd_breaks.specs.declared.GraphemeClusterBreak.{GraphemeClusterBreak}
 use Rattle.ucd_breaks.specs.declared.GraphemeClusterBreak.TheVariants.{Control}
@@ -10,9 +10,11 @@ use Rattle.unicode_segmentation.specs.Grapheme.{break_by_pair, ends_in_linker, e
 use Rattle.nfg_text.specs.Breaks.{is_linked_after}
 use Rattle.nfg_text.specs.Properties.{bit}
 use Rattle.nfg_passes.specs.Ids.{id_number, class_of_id}
+use Rattle.nfg_passes.specs.Rows.{next_in_rows, break_in_rows}
 use Rattle.nfg_passes.specs.States.{LookBack, look_back, state_of, state_after}
+use Rattle.nfg_passes.specs.declared.rows.TheConstants.{ROWS}
 use Rattle.nfg_passes.proofs.IdFacts.{ids_tell}
-use Rattle.nfg_passes.proofs.RowFacts.{row_holds-at, row_at, seen_at, left_at, seen_then, next_state, joins_by_id, breaks_by_id}
+use Rattle.nfg_passes.proofs.RowFacts.{row_holds-at, seen_at, left_at, seen_then, next_state, joins_by_id, breaks_by_id}
 
 -- the rules on neighbors take a class for that of the last code point, where there is one
 abbrev StandsForLast : GraphemeClusterBreak → List ℕ → Type 0
@@ -79,12 +81,21 @@ breaks_by (last ∷ before) c after seen left =
     (ap₂ (λ v p. ((look_back (last ∷ before)).linker && is_consonant v) || ((look_back (last ∷ before)).joiner && p)) told.conjunct told.pictograph)
     (ap (λ v. (look_back (last ∷ before)).flag && is_regional v) told.class)))
 
--- the value in the rows: the state with the next code point, and whether the rules put a boundary before it
-pub row_gives : (before : List ℕ) (c : ℕ) (after : List ℕ) → row_at (state_after before) (id_number c) ≡ state_after (c ∷ before) + 16 * bit (is_grapheme_break true before (c ∷ after))
-row_gives before c after =
+known : (c : ℕ) → id_number c % 128 ≡ id_number c
+known c = omega (arith, (ids_tell c).bound)
+
+-- what the rows hold: the state with the next code point
+pub next_gives : (before : List ℕ) (c : ℕ) → next_in_rows (state_after before) (id_number c) ≡ state_after (c ∷ before)
+unfolding next_in_rows
+next_gives before c =
     let so_far = shown before in
     let holds = row_holds-at (state_after before) (id_number c) so_far.bound (ids_tell c).bound in
-    holds.value ∙ ap₂ (λ s b. s + 16 * bit b) (sym (state_after-cons c before so_far.seen)) (breaks_by before c after so_far.seen so_far.left)
+    ap (λ id. slice_index ROWS (id * 32 + state_after before)) (known c) ∙ holds.next ∙ sym (state_after-cons c before so_far.seen)
 
-pub row_again : (before : List ℕ) (c : ℕ) → row_at (state_after before + 16) (id_number c) ≡ row_at (state_after before) (id_number c)
-row_again before c = (row_holds-at (state_after before) (id_number c) (shown before).bound (ids_tell c).bound).again
+-- and whether the rules put a boundary before it
+pub break_gives : (before : List ℕ) (c : ℕ) (after : List ℕ) → break_in_rows (state_after before) (id_number c) ≡ bit (is_grapheme_break true before (c ∷ after))
+unfolding break_in_rows
+break_gives before c after =
+    let so_far = shown before in
+    let holds = row_holds-at (state_after before) (id_number c) so_far.bound (ids_tell c).bound in
+    ap (λ id. slice_index ROWS (id * 32 + 16 + state_after before)) (known c) ∙ holds.break ∙ ap bit (breaks_by before c after so_far.seen so_far.left)

@@ -1,23 +1,24 @@
 //! Where clusters begin, by the rules as a finite automaton.
-ghost use Rattle.std.specs.Prelude.{◌≡◌, ◌<◌, ℕ, List, ◌++◌, length, map, reverse};
+ghost use Rattle.std.specs.Prelude.{◌≡◌, ◌+◌, ◌≤◌, ℕ, List, ◌++◌, length, map, replicate, reverse, slice_index};
 ghost use Rattle.nfg_passes.specs.Ids.{id_number};
 ghost use Rattle.nfg_passes.specs.Marks.{marks_after};
-ghost use Rattle.nfg_passes.specs.Rows.{row_value};
+ghost use Rattle.nfg_passes.specs.Rows.{HoldsState};
 ghost use Rattle.nfg_passes.specs.States.{state_after};
 
 use crate::rows::ROWS;
+use std::simd::prelude::*;
 
 /// The state after the empty text.
 pub const START: u8 = 0;
 
-/// What the rows say of a code point of the id after a state, which may come with 16 added to it.
+// The state stands in each lane of a vector: a shuffle takes one cycle, where a load by the last one takes five.
 #[inline(always)]
-fn value_at(value: u8, id: u8) -> u8
-    requires { value < 32 }
-    ensures value { result ≡ row_value value id }
-    ensures small { result < 32 }
+fn entry_at(rows: &[u8], at: usize, states: u8x16) -> u8x16
+    requires room { at + 16 ≤ length rows.now }
+    requires state { HoldsState states (slice_index states 0) }
+    ensures { result ≡ replicate 16 (slice_index rows.now (at + slice_index states 0)) }
 {
-    ROWS[id as usize % 128 * 32 + value as usize]
+    u8x16::from_slice(&rows[at..]).swizzle_dyn(states)
 }
 
 /// Writes a mark for each code point of a text by their ids: 1 where a cluster ends before it, and 0 elsewhere.
@@ -29,10 +30,11 @@ pub fn mark_breaks(state: u8, ids: &[u8], into: &mut [u8]) -> u8
     ensures state { (before t : List ℕ) → state ≡ state_after before → ids.now ≡ map id_number t
         → result ≡ state_after (reverse t ++ before) }
 {
-    let mut value = state % 16;
+    let mut states = u8x16::splat(state % 16);
     for i in 0..ids.len() {
-        value = value_at(value, ids[i]);
-        into[i] = value / 16;
+        let row = ids[i] as usize % 128 * 32;
+        into[i] = entry_at(&ROWS, row + 16, states)[0];
+        states = entry_at(&ROWS, row, states);
     }
-    value % 16
+    states[0]
 }

@@ -2,6 +2,7 @@
 #![tactic(auto)]
 
 mod automaton;
+mod clusters;
 mod id_table;
 mod ids;
 pub mod laws;
@@ -9,5 +10,6 @@ mod rows;
 mod unsettled;
 
 pub use automaton::{START, mark_breaks};
+pub use clusters::{ends_of, mark_settled, settled_ends};
 pub use ids::{id_of, ids_of};
 pub use unsettled::first_unsettled;
