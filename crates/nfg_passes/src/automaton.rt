@@ -23,6 +23,7 @@ fn entry_at(rows: &[u8], at: usize, states: u8x16) -> u8x16
 
 /// Writes a mark for each code point of a text by their ids: 1 where a cluster ends before it, and 0 elsewhere.
 /// It takes the state after what comes before the text, and answers the state after the text.
+#[inline(never)]
 pub fn mark_breaks(state: u8, ids: &[u8], into: &mut [u8]) -> u8
     requires { length ids.now ≡ length into.old }
     ensures marks { (before t : List ℕ) → state ≡ state_after before → ids.now ≡ map id_number t

@@ -29,6 +29,7 @@ pub fn mark_settled(text: &[u32], ids: &mut [u8], marks: &mut [u8]) -> bool
 }
 
 /// Writes where clusters end, in code points, by the marks of a text, and answers how many there are.
+#[inline(never)]
 pub fn ends_of(marks: &[u8], ends: &mut [usize]) -> usize
     requires { length marks.now ≤ length ends.old }
     ensures bound { result ≤ length ends.new }

@@ -20,6 +20,7 @@ fn number_of(c: u32) -> u32
 }
 
 /// Writes the id of each code point.
+#[inline(never)]
 pub fn ids_of(text: &[u32], into: &mut [u8])
     requires { length text.now ≡ length into.old }
     ensures { into.new ≡ map id_number text.now }

@@ -7,6 +7,8 @@ mod id_table;
 mod ids;
 pub mod laws;
 mod rows;
+#[cfg(test)]
+mod tests;
 mod unsettled;
 
 pub use automaton::{START, mark_breaks};

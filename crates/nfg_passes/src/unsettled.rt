@@ -41,6 +41,7 @@ fn unsettled_in(ids: &[u8], at: usize) -> u64
 
 /// The first place at which a text with these ids might not be its own NFC, or the length: the first code
 /// point whose quick check is not Yes, or that is a mark and comes after a greater id.
+#[inline(never)]
 pub fn first_unsettled(ids: &[u8]) -> usize
     ensures { result ≡ first_unsettled ids.now }
 {
