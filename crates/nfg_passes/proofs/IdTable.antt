@@ -23,7 +23,8 @@ use Rattle.ucd_table.proofs.TrieCheck.{trie_ok, trie_ok-IsTrie, trie_ok-trie_val
 use Rattle.nfg_text.specs.Properties.{bit}
 use Rattle.nfg_passes.specs.Attributes.{attributes, attributes_in_order}
 use Rattle.nfg_passes.specs.Ids.{id_number}
-use Rattle.nfg_passes.specs.declared.id_table.TheConstants.{INDEX, WORDS, TAIL}
+use Rattle.nfg_passes.specs.declared.id_blocks.TheConstants.{WORDS}
+use Rattle.nfg_passes.specs.declared.id_table.TheConstants.{INDEX, TAIL}
 
 abbrev of_class : ℕ → ℕ
 of_class c = grapheme_cluster_break_number (grapheme_cluster_break c) + 16 * indic_conjunct_break_number (indic_conjunct_break c)

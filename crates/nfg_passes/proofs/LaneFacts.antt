@@ -3,7 +3,7 @@ use Rattle.std.proofs.Common.{map, not, ◌≤◌, ◌≡◌, ℕ, zero, suc, �
 use Rattle.std.proofs.lemmas.List.{length-map}
 use Rattle.std.proofs.lemmas.List.Sums.{prefix_len-le-length}
 use Rattle.nfg_passes.specs.Ids.{id_number}
-use Rattle.nfg_passes.specs.Unsettled.{is_unsettled, unsettled_marks, first_unsettled, IsSettled}
+use Rattle.nfg_passes.specs.Unsettled.{is_unsettled, unsettled_marks, first_unsettled, IsSettledText}
 use Rattle.std.proofs.lemmas.Simd.{get_or-zip2}
 use lib.Lanes.{chunk, sel_l, zip2}
 
@@ -68,7 +68,7 @@ unsettled_mark ids (suc k) follows inside =
     less = omega arith
 
 -- no place of a text is unsettled where the first is not below the length
-pub settled_from_length : (t ids : List ℕ) (first : ℕ) → ids ≡ map id_number t → first ≡ first_unsettled ids → length ids ≤ first → IsSettled t
+pub settled_from_length : (t ids : List ℕ) (first : ℕ) → ids ≡ map id_number t → first ≡ first_unsettled ids → length ids ≤ first → IsSettledText t
 settled_from_length t ids first of_text is past =
     let most = prefix_len-le-length (λ mark. not mark) (unsettled_marks (map id_number t)) in
     let found : first ≡ first_unsettled (map id_number t) = is ∙ ap first_unsettled of_text in

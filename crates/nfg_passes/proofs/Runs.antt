@@ -6,7 +6,7 @@ use Rattle.std.proofs.lemmas.Simd.{swz_l, length-swz_l, get_or-swz_l_below, leng
 use Rattle.nfg_passes.specs.Ids.{id_number}
 use Rattle.nfg_passes.specs.Marks.{marks_after}
 use Rattle.nfg_passes.specs.Rows.{HoldsState, next_in_rows, break_in_rows}
-use Rattle.nfg_passes.specs.States.{state_after}
+use Rattle.nfg_passes.specs.States.{automaton_state}
 use Rattle.nfg_passes.specs.declared.rows.TheConstants.{ROWS}
 use Rattle.nfg_passes.proofs.RowFacts.{entry_small}
 use Rattle.nfg_passes.proofs.StateFacts.{next_gives, break_gives, state_below}
@@ -53,26 +53,26 @@ abbrev pub last_state : ℕ → List ℕ → ℕ
 last_state state [] = state
 last_state state (id ∷ ids) = last_state (next_in_rows state id) ids
 
-marks_by_run : (before t : List ℕ) → marks_run (state_after before) (map id_number t) ≡ marks_after before t
+marks_by_run : (before t : List ℕ) → marks_run (automaton_state before) (map id_number t) ≡ marks_after before t
 unfolding marks_after
 marks_by_run before [] = refl
 marks_by_run before (c ∷ t) =
     ap₂ (λ mark marks. mark ∷ marks) (break_gives before c t) (ap (λ s. marks_run s (map id_number t)) (next_gives before c) ∙ marks_by_run (c ∷ before) t)
 
-last_by_run : (before t : List ℕ) → last_state (state_after before) (map id_number t) ≡ state_after (reverse t ++ before)
+last_by_run : (before t : List ℕ) → last_state (automaton_state before) (map id_number t) ≡ automaton_state (reverse t ++ before)
 last_by_run before [] = refl
 last_by_run before (c ∷ t) =
     let onto : reverse t ++ c ∷ before ≡ reverse (c ∷ t) ++ before =
     sym (append_assoc (reverse t) (c ∷ []) before) ∙ ap (λ l. l ++ before) (sym (reverse-append (c ∷ []) t)) in
-    ap (λ s. last_state s (map id_number t)) (next_gives before c) ∙ last_by_run (c ∷ before) t ∙ ap state_after onto
+    ap (λ s. last_state s (map id_number t)) (next_gives before c) ∙ last_by_run (c ∷ before) t ∙ ap automaton_state onto
 
-started : (state : ℕ) (before : List ℕ) → state ≡ state_after before → state % 16 ≡ state_after before
+started : (state : ℕ) (before : List ℕ) → state ≡ automaton_state before → state % 16 ≡ automaton_state before
 started state before is = omega (arith, is, state_below before)
 
-pub run_marks : (state : ℕ) (ids before t : List ℕ) → state ≡ state_after before → ids ≡ map id_number t → marks_run (state % 16) ids ≡ marks_after before t
+pub run_marks : (state : ℕ) (ids before t : List ℕ) → state ≡ automaton_state before → ids ≡ map id_number t → marks_run (state % 16) ids ≡ marks_after before t
 run_marks state ids before t is of_text = ap₂ marks_run (started state before is) of_text ∙ marks_by_run before t
 
-pub run_state : (state : ℕ) (ids before t : List ℕ) → state ≡ state_after before → ids ≡ map id_number t → last_state (state % 16) ids ≡ state_after (reverse t ++ before)
+pub run_state : (state : ℕ) (ids before t : List ℕ) → state ≡ automaton_state before → ids ≡ map id_number t → last_state (state % 16) ids ≡ automaton_state (reverse t ++ before)
 run_state state ids before t is of_text = ap₂ last_state (started state before is) of_text ∙ last_by_run before t
 
 -- one more step of the loop

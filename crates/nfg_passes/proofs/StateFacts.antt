@@ -11,7 +11,7 @@ use Rattle.nfg_text.specs.Breaks.{is_linked_after}
 use Rattle.nfg_text.specs.Properties.{bit}
 use Rattle.nfg_passes.specs.Ids.{id_number, class_of_id}
 use Rattle.nfg_passes.specs.Rows.{next_in_rows, break_in_rows}
-use Rattle.nfg_passes.specs.States.{LookBack, look_back, state_of, state_after}
+use Rattle.nfg_passes.specs.States.{LookBack, look_back, state_of, automaton_state}
 use Rattle.nfg_passes.specs.declared.rows.TheConstants.{ROWS}
 use Rattle.nfg_passes.proofs.IdFacts.{ids_tell}
 use Rattle.nfg_passes.proofs.RowFacts.{row_holds-at, seen_at, left_at, seen_then, next_state, joins_by_id, breaks_by_id}
@@ -22,9 +22,9 @@ StandsForLast left [] = left ≡ Control
 StandsForLast left (last ∷ before) = (next : GraphemeClusterBreak) → break_by_pair true left next ≡ break_by_pair true (grapheme_cluster_break last) next
 
 record IsShown (before : List ℕ) : Type 0 where
-  bound : state_after before < 13
-  seen : seen_at (state_after before) ≡ look_back before
-  left : StandsForLast (left_at (state_after before)) before
+  bound : automaton_state before < 13
+  seen : seen_at (automaton_state before) ≡ look_back before
+  left : StandsForLast (left_at (automaton_state before)) before
 
 same_look_back : (a b : LookBack) → a.linker ≡ b.linker → a.pictograph ≡ b.pictograph → a.joiner ≡ b.joiner → a.flag ≡ b.flag → a ≡ b
 same_look_back a b l p j f =
@@ -47,8 +47,8 @@ look_back-cons c before =
     (ap (λ v. is_zwj v && ends_in_pictograph before) (sym told.class))
     (ap (λ v. is_regional v && not (ends_in_half_flag before)) (sym told.class))
 
-state_after-cons : (c : ℕ) (before : List ℕ) → seen_at (state_after before) ≡ look_back before → state_after (c ∷ before) ≡ next_state (state_after before) (id_number c)
-state_after-cons c before seen =
+automaton_state-cons : (c : ℕ) (before : List ℕ) → seen_at (automaton_state before) ≡ look_back before → automaton_state (c ∷ before) ≡ next_state (automaton_state before) (id_number c)
+automaton_state-cons c before seen =
     ap₂ state_of (sym (ids_tell c).class) (look_back-cons c before ∙ ap (λ s. seen_then s (id_number c)) (sym seen))
 
 shown : (before : List ℕ) → IsShown before
@@ -56,8 +56,8 @@ unfolding ends_in_linker ends_in_pictograph ends_in_half_flag
 shown [] = record { bound = lit< tt; seen = refl; left = refl }
 shown (c ∷ before) =
     let so_far = shown before in
-    let holds = row_holds-at (state_after before) (id_number c) so_far.bound (ids_tell c).bound in
-    let next = state_after-cons c before so_far.seen in
+    let holds = row_holds-at (automaton_state before) (id_number c) so_far.bound (ids_tell c).bound in
+    let next = automaton_state-cons c before so_far.seen in
     record {
       bound = subst (λ s. s < 13) (sym next) holds.bound;
       seen =
@@ -66,11 +66,11 @@ shown (c ∷ before) =
       left = λ v. ap (λ s. break_by_pair true (left_at s) v) next ∙ holds.left v ∙ ap (λ k. break_by_pair true k v) (ids_tell c).class;
     }
 
-pub state_below : (before : List ℕ) → state_after before < 13
+pub state_below : (before : List ℕ) → automaton_state before < 13
 state_below before = (shown before).bound
 
-breaks_by : (before : List ℕ) (c : ℕ) (after : List ℕ) → seen_at (state_after before) ≡ look_back before → StandsForLast (left_at (state_after before)) before
-    → breaks_by_id (state_after before) (id_number c) ≡ is_grapheme_break true before (c ∷ after)
+breaks_by : (before : List ℕ) (c : ℕ) (after : List ℕ) → seen_at (automaton_state before) ≡ look_back before → StandsForLast (left_at (automaton_state before)) before
+    → breaks_by_id (automaton_state before) (id_number c) ≡ is_grapheme_break true before (c ∷ after)
 unfolding is_grapheme_break
 breaks_by [] c after seen left = ap (λ k. unwrap_or (break_by_pair true k (class_of_id (id_number c))) (not (joins_by_id (seen_at 0) (id_number c)))) left
 breaks_by (last ∷ before) c after seen left =
@@ -85,17 +85,17 @@ known : (c : ℕ) → id_number c % 128 ≡ id_number c
 known c = omega (arith, (ids_tell c).bound)
 
 -- what the rows hold: the state with the next code point
-pub next_gives : (before : List ℕ) (c : ℕ) → next_in_rows (state_after before) (id_number c) ≡ state_after (c ∷ before)
+pub next_gives : (before : List ℕ) (c : ℕ) → next_in_rows (automaton_state before) (id_number c) ≡ automaton_state (c ∷ before)
 unfolding next_in_rows
 next_gives before c =
     let so_far = shown before in
-    let holds = row_holds-at (state_after before) (id_number c) so_far.bound (ids_tell c).bound in
-    ap (λ id. slice_index ROWS (id * 32 + state_after before)) (known c) ∙ holds.next ∙ sym (state_after-cons c before so_far.seen)
+    let holds = row_holds-at (automaton_state before) (id_number c) so_far.bound (ids_tell c).bound in
+    ap (λ id. slice_index ROWS (id * 32 + automaton_state before)) (known c) ∙ holds.next ∙ sym (automaton_state-cons c before so_far.seen)
 
 -- and whether the rules put a boundary before it
-pub break_gives : (before : List ℕ) (c : ℕ) (after : List ℕ) → break_in_rows (state_after before) (id_number c) ≡ bit (is_grapheme_break true before (c ∷ after))
+pub break_gives : (before : List ℕ) (c : ℕ) (after : List ℕ) → break_in_rows (automaton_state before) (id_number c) ≡ bit (is_grapheme_break true before (c ∷ after))
 unfolding break_in_rows
 break_gives before c after =
     let so_far = shown before in
-    let holds = row_holds-at (state_after before) (id_number c) so_far.bound (ids_tell c).bound in
-    ap (λ id. slice_index ROWS (id * 32 + 16 + state_after before)) (known c) ∙ holds.break ∙ ap bit (breaks_by before c after so_far.seen so_far.left)
+    let holds = row_holds-at (automaton_state before) (id_number c) so_far.bound (ids_tell c).bound in
+    ap (λ id. slice_index ROWS (id * 32 + 16 + automaton_state before)) (known c) ∙ holds.break ∙ ap bit (breaks_by before c after so_far.seen so_far.left)

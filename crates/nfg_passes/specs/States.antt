@@ -46,6 +46,6 @@ state_of Prepend seen = 7
 state_of _ seen = state_of_look_back seen
 
 -- the state after a text, given from its end: that of the empty text is that after a control
-abbrev pub state_after : List ℕ → ℕ
-state_after [] = 0
-state_after (last ∷ before) = state_of (grapheme_cluster_break last) (look_back (last ∷ before))
+abbrev pub automaton_state : List ℕ → ℕ
+automaton_state [] = 0
+automaton_state (last ∷ before) = state_of (grapheme_cluster_break last) (look_back (last ∷ before))

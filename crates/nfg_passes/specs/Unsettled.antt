@@ -19,14 +19,14 @@ abbrev pub first_unsettled : List ℕ → ℕ
 first_unsettled ids = position_or_len (λ unsettled. unsettled) (unsettled_marks ids)
 
 -- a text has none
-abbrev pub IsSettled : List ℕ → Type 0
-IsSettled t = first_unsettled (map id_number t) ≡ length t
+abbrev pub IsSettledText : List ℕ → Type 0
+IsSettledText t = first_unsettled (map id_number t) ≡ length t
 
 -- such a text is its own NFC
 abbrev pub SettledTextsStay : Type 0
-SettledTextsStay = (t : List ℕ) → IsSettled t → nfc t ≡ t
+SettledTextsStay = (t : List ℕ) → IsSettledText t → nfc t ≡ t
 
 -- and stays so behind another, where it begins with a safe start
 abbrev pub SettledTextsStayBehind : Type 0
 SettledTextsStayBehind =
-    (x : List ℕ) (c : ℕ) (t : List ℕ) → starts_safely c ≡ true → IsSettled (c ∷ t) → nfc (x ++ c ∷ t) ≡ nfc x ++ c ∷ t
+    (x : List ℕ) (c : ℕ) (t : List ℕ) → starts_safely c ≡ true → IsSettledText (c ∷ t) → nfc (x ++ c ∷ t) ≡ nfc x ++ c ∷ t

@@ -3,7 +3,7 @@ ghost use Rattle.std.specs.Prelude.{◌≡◌, ◌+◌, ◌≤◌, ℕ, List, �
 ghost use Rattle.nfg_passes.specs.Ids.{id_number};
 ghost use Rattle.nfg_passes.specs.Marks.{marks_after};
 ghost use Rattle.nfg_passes.specs.Rows.{HoldsState};
-ghost use Rattle.nfg_passes.specs.States.{state_after};
+ghost use Rattle.nfg_passes.specs.States.{automaton_state};
 
 use crate::rows::ROWS;
 use std::simd::prelude::*;
@@ -26,10 +26,10 @@ fn entry_at(rows: &[u8], at: usize, states: u8x16) -> u8x16
 #[inline(never)]
 pub fn mark_breaks(state: u8, ids: &[u8], into: &mut [u8]) -> u8
     requires { length ids.now ≡ length into.old }
-    ensures marks { (before t : List ℕ) → state ≡ state_after before → ids.now ≡ map id_number t
+    ensures marks { (before t : List ℕ) → state ≡ automaton_state before → ids.now ≡ map id_number t
         → into.new ≡ marks_after before t }
-    ensures state { (before t : List ℕ) → state ≡ state_after before → ids.now ≡ map id_number t
-        → result ≡ state_after (reverse t ++ before) }
+    ensures state { (before t : List ℕ) → state ≡ automaton_state before → ids.now ≡ map id_number t
+        → result ≡ automaton_state (reverse t ++ before) }
 {
     let mut states = u8x16::splat(state % 16);
     for i in 0..ids.len() {

@@ -4,7 +4,7 @@ ghost use Rattle.unicode_normalization.specs.Forms.{nfc};
 ghost use Rattle.nfg_text.specs.Graphemes.{cluster_ends};
 ghost use Rattle.nfg_passes.specs.Ids.{id_number};
 ghost use Rattle.nfg_passes.specs.Marks.{marks_of, ends_of_marks};
-ghost use Rattle.nfg_passes.specs.Unsettled.{IsSettled};
+ghost use Rattle.nfg_passes.specs.Unsettled.{IsSettledText};
 
 use crate::automaton::{START, mark_breaks};
 use crate::ids::ids_of;
@@ -16,7 +16,7 @@ pub fn mark_settled(text: &[u32], ids: &mut [u8], marks: &mut [u8]) -> bool
     requires ids { length text.now ≡ length ids.old }
     requires marks { length text.now ≡ length marks.old }
     ensures ids { ids.new ≡ map id_number text.now }
-    ensures settled { IsTrue result ↔ IsSettled text.now }
+    ensures settled { IsTrue result ↔ IsSettledText text.now }
     ensures stays { result ≡ true → nfc text.now ≡ text.now }
     ensures marks { result ≡ true → marks.new ≡ marks_of text.now }
 {
@@ -60,7 +60,7 @@ pub fn settled_ends(
     requires ends { length text.now ≡ length ends.old }
     ensures ends { IfSome result (λ count. take count ends.new ≡ cluster_ends (nfc text.now)) }
     ensures settled { IfSome result (λ count. nfc text.now ≡ text.now) }
-    ensures answers { IsSettled text.now → IsSome result }
+    ensures answers { IsSettledText text.now → IsSome result }
 {
     if !mark_settled(text, ids, marks) {
         return None;

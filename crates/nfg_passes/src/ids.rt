@@ -2,7 +2,8 @@
 ghost use Rattle.std.specs.Prelude.{◌≡◌, length, map};
 ghost use Rattle.nfg_passes.specs.Ids.{id_number};
 
-use crate::id_table::{INDEX, TAIL, WORDS};
+use crate::id_blocks::WORDS;
+use crate::id_table::{INDEX, TAIL};
 
 /// The id of a code point, and 0, the id of a plain one, for a number that is none.
 #[inline(always)]

@@ -3,6 +3,7 @@
 
 mod automaton;
 mod clusters;
+mod id_blocks;
 mod id_table;
 mod ids;
 pub mod laws;

@@ -23,15 +23,15 @@ overflow_sub-at c = omega (arith, c.loop-at.invariant.some)
 
 pub loop-at-preserved : goal.loop-at-preserved
 loop-at-preserved c =
-    let ids = c.args.ids.now in
     let at = c.loop-at.at in
+    let ids = c.args.ids.now in
     let mark = unsettled_mark ids at c.loop-at.invariant.some c.loop-at-test.true in
     clear_next (unsettled_marks ids) at c.loop-at.invariant (omega (arith, c.loop-at-test.true, length-unsettled_marks ids)) (mark ∙ sym c.is_unsettled.ensures ∙ c.if-not-is_unsettled.true)
 
 pub returns-else-not-is_unsettled : goal.returns-else-not-is_unsettled
 returns-else-not-is_unsettled c =
-    let ids = c.args.ids.now in
     let at = c.loop-at.at in
+    let ids = c.args.ids.now in
     let mark = unsettled_mark ids at c.loop-at.invariant.some c.loop-at-test.true in
     first_mark_is (unsettled_marks ids) at c.loop-at.invariant (λ inside. mark ∙ sym c.is_unsettled.ensures ∙ c.if-not-is_unsettled.false)
 
