@@ -89,7 +89,7 @@ pub running_first : (places : ℕ) (script : List NumberedCommand) (reads : List
 unfolding evaluate
 running_first places script reads held h = record { state = first_state reads; holds = h; in_nfg = first_in_nfg reads; rest = refl }
 
-drop-at : (script : List NumberedCommand) (k : ℕ) (numbered : NumberedCommand) → slice_get script k ≡ Some numbered → drop k script ≡ numbered ∷ drop (k + 1) script
+pub drop-at : (script : List NumberedCommand) (k : ℕ) (numbered : NumberedCommand) → slice_get script k ≡ Some numbered → drop k script ≡ numbered ∷ drop (k + 1) script
 drop-at [] k numbered e = cc
 drop-at (x ∷ script) zero numbered e = let same : x ≡ numbered = cc in ap (λ v. v ∷ script) same
 drop-at (x ∷ script) (suc k) numbered e =

@@ -16,3 +16,4 @@ pub mod InNfg
 pub mod Answered
 pub mod JoinedValues
 pub mod FailedReads
+pub mod Leveled

@@ -3,6 +3,7 @@ pub mod Printing
 pub mod Evaluation
 pub mod Holding
 pub mod Laws
+pub mod Levels
 pub mod Separated
 pub use Rattle.nfg_seam.specs.ClusterPieces
 pub use Rattle.nfg_seam.specs.ConcatPieces

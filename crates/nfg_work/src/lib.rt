@@ -12,6 +12,8 @@ mod hexadecimal;
 mod join_tests;
 mod joining;
 pub mod laws;
+mod level;
+mod level_list;
 mod naming;
 mod output;
 mod printing;
@@ -23,4 +25,6 @@ mod tests;
 
 pub use alone::run_alone;
 pub use gate::{Gate, OpenGate};
+pub use level::levels;
+pub use level_list::LevelList;
 pub use output::{Cause, FileRead, Output, RefusedLine};

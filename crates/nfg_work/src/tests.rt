@@ -2,7 +2,7 @@
 ghost use Rattle.std.specs.Prelude.{◌≤◌, length};
 ghost use Rattle.nfg_work.specs.Evaluation.{AreWithinLimit};
 
-use crate::{Cause, FileRead, Gate, OpenGate, Output, RefusedLine, run_alone};
+use crate::{Cause, FileRead, Gate, LevelList, OpenGate, Output, RefusedLine, levels, run_alone};
 use nfg_script::parse;
 use nfg_text::ByteList;
 use std::alloc::Global;
@@ -114,4 +114,29 @@ fn reads_go_between_threads_and_an_open_gate_opens() {
     is_shared(&read);
     OpenGate.enter(0);
     OpenGate.leave(0);
+}
+
+#[test]
+fn a_command_stands_above_those_that_define_its_names(rt: HostRuntime) -> Result<(), Fail> {
+    let script = b"text a 1100\ntext b 1161\ntext c 11A8\ncat d a b\nshow d\ncat e d c\nshow e\n";
+    let list = match parse(rt.alloc(), script.as_slice()) {
+        Ok(script) => levels(rt.alloc(), &script)?,
+        Err(_) => Err("the script is refused")?,
+    };
+    assert!(rt; list.as_slice() == [0, 0, 0, 1, 2, 2, 3].as_slice());
+    assert!(rt; list.len() == 7);
+    Ok(())
+}
+
+#[test]
+fn levels_are_kept_in_order_and_go_between_threads(rt: HostRuntime) -> Result<(), Fail> {
+    let mut list = LevelList::new(rt.alloc());
+    is_sent(&list);
+    is_shared(&list);
+    assert!(rt; list.len() == 0);
+    list.append([3, 1].as_slice())?;
+    list.append([2].as_slice())?;
+    let copy = LevelList::from_slice(rt.alloc(), list.as_slice())?;
+    assert!(rt; copy.as_slice() == [3, 1, 2].as_slice());
+    Ok(())
 }
