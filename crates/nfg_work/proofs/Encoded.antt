@@ -13,11 +13,11 @@ use Rattle.nfg_decode.specs.declared.encoding.Encoding.{Encoding}
 use Rattle.nfg_decode.specs.declared.encoding.Encoding.TheVariants.{Utf8, Utf16, Utf16Le, Utf16Be, Latin1}
 use Rattle.nfg_decode.specs.Encoding.{encode, encode_code, has_code, text_start}
 use Rattle.nfg_encode.specs.Refusal.{first_lacked}
-use Rattle.nfg_syn.specs.OwnTexts.{OwnTexts, IsOwnPass, known_of}
+use Rattle.nfg_syn.specs.Known.{Texts, IsKnowledge}
 use Rattle.nfg_syn.specs.Represents.{Represents}
 use Rattle.nfg_syn.specs.RepresentsLaws.{Represents-take, Represents-drop}
 use Rattle.nfg_work.specs.declared.stop.Stop.{Stop}
-use Rattle.nfg_work.specs.declared.stop.Stop.TheVariants.{Refused, OutOfMemory}
+use Rattle.nfg_work.specs.declared.stop.Stop.TheVariants.{Refused, RowFull, NoPortion, OutOfMemory}
 use Rattle.nfg_work.specs.Evaluation.{first_lacking, is_lacking, output_limit}
 use Rattle.nfg_strand.specs.Value.{Rope}
 use Rattle.nfg_work.specs.Holding.{AreSpelled, Prints, Puts, Writes, IsRefusalOf, IsRefusedAt, without_mark}
@@ -232,44 +232,46 @@ written-all e clusters at had old out new result all had_is before out_is ok ref
           lt-ltb output_limit _ (omega (arith, over, long)),
           is.front ∙ (λ i. take (had_is i) (whole i)) ∙ take-append_seam old (encode e (text_of clusters)),
         )
+    by (Err RowFull) whole fine is = let cause_is = is.cause in cc
+    by (Err NoPortion) whole fine is = let cause_is = is.cause in cc
     by (Err OutOfMemory) whole fine is = tt
 
 -- ---- what is copied of a string
 
 -- what is copied into the front of the numbers stands for that part of the clusters
-pub range_represents : (texts now : List (List ℕ)) (gs numbers copied : List ℤ) (clusters : List (List ℕ)) (at count : ℕ) → now ≡ texts → count ≤ length numbers
-    → at + count ≤ length gs → copied ≡ slice_range gs at (at + length (take count numbers)) → Represents (known_of texts) gs clusters
-    → Represents (known_of now) (take count (copied ++ drop count numbers)) (take count (drop at clusters))
-range_represents texts now gs numbers copied clusters at count same room inside copied_is are =
+pub range_represents : (known now : Texts) (gs numbers copied : List ℤ) (clusters : List (List ℕ)) (at count : ℕ) → now ≡ known → count ≤ length numbers
+    → at + count ≤ length gs → copied ≡ slice_range gs at (at + length (take count numbers)) → Represents known gs clusters
+    → Represents now (take count (copied ++ drop count numbers)) (take count (drop at clusters))
+range_represents known now gs numbers copied clusters at count same room inside copied_is are =
     let exact : at + count - at ≡ count = omega arith in
     let range : copied ≡ take count (drop at gs) =
     copied_is ∙ ap (λ n. slice_range gs at (at + n)) (length-take-le count numbers room) ∙ ap (λ k. take k (drop at gs)) exact in
     let behind = length-drop at gs in
     let long : length copied ≡ count = ap length range ∙ length-take-le count (drop at gs) (omega (arith, behind, inside)) in
     let part : take count (copied ++ drop count numbers) ≡ take count (drop at gs) = take_at copied (drop count numbers) count long ∙ range in
-    rw (same, part) (Represents-take (known_of texts) count (drop at gs) (drop at clusters) (Represents-drop (known_of texts) at gs clusters are))
+    rw (same, part) (Represents-take known count (drop at gs) (drop at clusters) (Represents-drop known at gs clusters are))
 
 -- the text of a part is one
-pub part_text : (size : ℕ) (pass : OwnTexts) (gs : List ℤ) (clusters : List (List ℕ)) (start end : ℕ) → IsOwnPass size pass → Represents (known_of pass.texts) gs clusters
+pub part_text : (size : ℕ) (known places : Texts) (gs : List ℤ) (clusters : List (List ℕ)) (start end : ℕ) → IsKnowledge size known places → Represents known gs clusters
     → IsText (text_of (slice_range clusters start end))
-part_text size pass gs clusters start end own are =
-    spelled_text size pass (slice_range gs start end) (slice_range clusters start end) own
-    (Represents-take (known_of pass.texts) (end - start) (drop start gs) (drop start clusters) (Represents-drop (known_of pass.texts) start gs clusters are))
+part_text size known places gs clusters start end knows are =
+    spelled_text size known places (slice_range gs start end) (slice_range clusters start end) knows
+    (Represents-take known (end - start) (drop start gs) (drop start clusters) (Represents-drop known start gs clusters are))
 
-pub represents_kept : (texts now : List (List ℕ)) (gs : List ℤ) (clusters : List (List ℕ)) → now ≡ texts → Represents (known_of texts) gs clusters
-    → Represents (known_of now) gs clusters
-represents_kept texts now gs clusters same are = let Q : List (List ℕ) → Type 0 = λ v. Represents (known_of v) gs clusters in subst Q (sym same) are
+pub represents_kept : (known now : Texts) (gs : List ℤ) (clusters : List (List ℕ)) → now ≡ known → Represents known gs clusters
+    → Represents now gs clusters
+represents_kept known now gs clusters same are = let Q : Texts → Type 0 = λ v. Represents v gs clusters in subst Q (sym same) are
 
--- a string whose numbers are known stays one while the texts stay
-pub texts_kept : (texts now : List (List ℕ)) (string : Rope) → now ≡ texts → AreSpelled texts string → AreSpelled now string
-texts_kept texts now string same are = (are.0, represents_kept texts now string.graphemes are.0 same are.1)
+-- a string whose numbers are known stays one while what is known stays
+pub known_kept : (known now : Texts) (string : Rope) → now ≡ known → AreSpelled known string → AreSpelled now string
+known_kept known now string same are = (are.0, represents_kept known now string.graphemes are.0 same are.1)
 
--- what is written of a part, by what the texts were
-pub written_here : (e part : Encoding) (texts now : List (List ℕ)) (gs : List ℤ) (clusters : List (List ℕ)) (start end : ℕ) (old new : List ℕ) (result : Result Bool AllocError)
-    → part ≡ without_mark e → now ≡ texts
-    → ((cs : List (List ℕ)) → Represents (known_of now) gs cs → Writes part (text_of (slice_range cs start end)) old new result)
-    → Represents (known_of texts) gs clusters → Writes (without_mark e) (text_of (slice_range clusters start end)) old new result
-written_here e part texts now gs clusters start end old new result part_is same written are =
+-- what is written of a part, by what was known
+pub written_here : (e part : Encoding) (known now : Texts) (gs : List ℤ) (clusters : List (List ℕ)) (start end : ℕ) (old new : List ℕ) (result : Result Bool AllocError)
+    → part ≡ without_mark e → now ≡ known
+    → ((cs : List (List ℕ)) → Represents now gs cs → Writes part (text_of (slice_range cs start end)) old new result)
+    → Represents known gs clusters → Writes (without_mark e) (text_of (slice_range clusters start end)) old new result
+written_here e part known now gs clusters start end old new result part_is same written are =
     let P : Encoding → Type 0 = λ v. Writes v (text_of (slice_range clusters start end)) old new result in
-    let Q : List (List ℕ) → Type 0 = λ v. Represents (known_of v) gs clusters in
+    let Q : Texts → Type 0 = λ v. Represents v gs clusters in
     subst P part_is (written clusters (subst Q (sym same) are))

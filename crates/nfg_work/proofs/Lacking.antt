@@ -10,8 +10,7 @@ use Rattle.std.proofs.lemmas.List.{take-append-drop}
 use Rattle.nfg_strand.proofs.Positions.{found-append, absent-append, position_from-add}
 use Rattle.nfg_text.specs.Text.{IsText, text_of}
 use Rattle.nfg_decode.specs.declared.encoding.Encoding.{Encoding}
-use Rattle.nfg_syn.specs.OwnTexts.{OwnTexts, IsOwnPass, known_of}
-use Rattle.nfg_syn.specs.OwnTextsLaws.{numbers_of}
+use Rattle.nfg_syn.specs.Known.{Texts, IsKnowledge}
 use Rattle.nfg_syn.specs.Represents.{Represents, spelling}
 use Rattle.nfg_syn.specs.RepresentsLaws.{spelling-one}
 use Rattle.nfg_work.specs.Evaluation.{first_lacking, is_lacking}
@@ -89,16 +88,16 @@ none-here e clusters i cluster before inside at is =
     (position_from-zero (is_lacking e) (take 1 (drop i clusters)) ∙ ap (position_from (is_lacking e) 0) (drop-one clusters i cluster at) ∙ one-lacking e cluster false is)
 
 -- clusters that numbers stand for spell a text
-pub spelled_text : (size : ℕ) (pass : OwnTexts) (ns : List ℤ) (cs : List (List ℕ)) → IsOwnPass size pass → Represents (known_of pass.texts) ns cs → IsText (text_of cs)
-spelled_text size pass [] [] own are = refl
-spelled_text size pass [] (c ∷ cs) own are = absurd are
-spelled_text size pass (n ∷ ns) [] own are = absurd are
-spelled_text size pass (n ∷ ns) (c ∷ cs) own are = scalars-append c (concat cs) (one size pass n c own are.0) (spelled_text size pass ns cs own are.1)
+pub spelled_text : (size : ℕ) (known places : Texts) (ns : List ℤ) (cs : List (List ℕ)) → IsKnowledge size known places → Represents known ns cs → IsText (text_of cs)
+spelled_text size known places [] [] knows are = refl
+spelled_text size known places [] (c ∷ cs) knows are = absurd are
+spelled_text size known places (n ∷ ns) [] knows are = absurd are
+spelled_text size known places (n ∷ ns) (c ∷ cs) knows are = scalars-append c (concat cs) (one n c are.0) (spelled_text size known places ns cs knows are.1)
   where
     scalars-append : (xs ys : List ℕ) → all_scalars xs ≡ true → all_scalars ys ≡ true → all_scalars (xs ++ ys) ≡ true
     scalars-append [] ys first second = second
     scalars-append (x ∷ xs) ys first second = let both = and_parts (is_scalar x) (all_scalars xs) first in and_from (is_scalar x) (all_scalars (xs ++ ys)) both.0 (scalars-append xs ys both.1 second)
 
-    one : (size : ℕ) (pass : OwnTexts) (n : ℤ) (c : List ℕ) → IsOwnPass size pass → spelling (known_of pass.texts) n ≡ Some c → all_scalars c ≡ true
-    one size pass (pos p) c own e = let is = spelling-one (known_of pass.texts) p c e in ap all_scalars is.1 ∙ and_from (is_scalar p) true is.0 refl
-    one size pass (negsuc m) c own e = (numbers_of size pass.texts own.lawful m c e).1.text
+    one : (n : ℤ) (c : List ℕ) → spelling known n ≡ Some c → all_scalars c ≡ true
+    one (pos p) c e = let is = spelling-one known p c e in ap all_scalars is.1 ∙ and_from (is_scalar p) true is.0 refl
+    one (negsuc m) c e = (knows.numbers m c e).1.text

@@ -1,13 +1,9 @@
 -- Levels, one command after another.
-use Rattle.std.proofs.Common.{◌≡◌, ℕ, ◌+◌, ◌<◌, List, [], ◌∷◌, ◌++◌, length, drop, slice_get, Some, IfSome, sym, ap, ◌∙◌, append_assoc}
+use Rattle.std.proofs.Common.{◌≡◌, ℕ, ◌+◌, ◌<◌, List, [], ◌∷◌, ◌++◌, length, drop, slice_get, IfSome, sym, ap, ◌∙◌, append_assoc}
 use Rattle.nfg_script.specs.declared.command.Command.{Command}
 use Rattle.nfg_script.specs.Script.{NumberedCommand}
 use Rattle.nfg_work.specs.Levels.{command_level, names_with, levels_from}
-use Rattle.nfg_work.proofs.Answered.{command_at, drop-at}
-
-command_is : (script : List NumberedCommand) (k : ℕ) (command : Command) (numbered : NumberedCommand) → slice_get script k ≡ Some numbered
-    → IfSome (slice_get script k) (λ n. command ≡ n.command) → command ≡ numbered.command
-command_is script k command numbered here is = rw here at is
+use Rattle.nfg_work.proofs.Answered.{command_at, command_is, drop-at}
 
 -- the level of one command more
 pub leveled_next : (script : List NumberedCommand) (k level : ℕ) (list names longer more : List ℕ) (command : Command) → k < length script

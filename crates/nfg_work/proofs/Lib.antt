@@ -1,6 +1,7 @@
 mod Examples
 pub mod Members
 pub mod InUse
+pub mod OwnUse
 pub mod Narrow
 pub mod Strings
 pub mod Defined

@@ -3,7 +3,7 @@ use Rattle.std.proofs.Common.{◌≡◌, ℕ, zero, suc, ◌<◌, ◌≤◌, Boo
 use Rattle.std.proofs.lemmas.Bool.{false_from_ne_true}
 use Rattle.std.proofs.lemmas.List.Folds.{list_any-append}
 use Rattle.std.proofs.lemmas.Slice.Eq.{bytes_eq-Decides}
-use Rattle.std.proofs.lemmas.Map.Made.{length-le_from_is_member, length-from_keys, is_member-filter}
+use Rattle.std.proofs.lemmas.Map.Made.{length-le_from_is_member, length-from_keys, is_member-filter, IsDistinct-from_count}
 use Rattle.std.proofs.lemmas.Map.Keys.{IsDistinct-from_apart, IsDistinct-push}
 use Rattle.std.specs.Cmp.{IsEquivalence}
 use Rattle.std.specs.List.{IsDistinct}
@@ -24,7 +24,7 @@ pub or-left : (a b : Bool) → a ≡ true → (a || b) ≡ true
 or-left true b e = refl
 or-left false b e = cc
 
-bytes_eq-true : (x y : List ℕ) → x ≡ y → bytes_eq x y ≡ true
+pub bytes_eq-true : (x y : List ℕ) → x ≡ y → bytes_eq x y ≡ true
 bytes_eq-true x y e = (bytes_eq-Decides x y).1 e
 
 bytes_eq-same : (x y : List ℕ) → bytes_eq x y ≡ true → x ≡ y
@@ -109,3 +109,20 @@ length-distinct xs ys distinct same = length-from_keys texts_alike xs ys distinc
 -- with one more text
 pub IsDistinct-more : (xs : List (List ℕ)) (t : List ℕ) → IsDistinct bytes_eq xs → is_member bytes_eq xs t ≡ false → IsDistinct bytes_eq (xs ++ t ∷ [])
 IsDistinct-more xs t distinct new = IsDistinct-push texts_alike xs t distinct new
+
+-- each of the different ones is there once
+count-unique : (xs : List (List ℕ)) → distinct_count bytes_eq (unique_keys bytes_eq xs) ≡ length (unique_keys bytes_eq xs)
+count-unique [] = refl
+count-unique (x ∷ xs) = by (is_member bytes_eq xs x) refl (count-unique xs)
+  where
+    by : (b : Bool) → is_member bytes_eq xs x ≡ b → distinct_count bytes_eq (unique_keys bytes_eq xs) ≡ length (unique_keys bytes_eq xs)
+        → distinct_count bytes_eq (cond b (unique_keys bytes_eq xs) (x ∷ unique_keys bytes_eq xs)) ≡ length (cond b (unique_keys bytes_eq xs) (x ∷ unique_keys bytes_eq xs))
+    by true e again = again
+    by false e again = let apart : is_member bytes_eq (unique_keys bytes_eq xs) x ≡ false = is_member-unique xs x ∙ e in rw apart (ap (λ k. suc k) again)
+
+-- texts that are all members of a list are no more different ones than it is long
+pub distinct_count-within : (xs ys : List (List ℕ)) → ((q : List ℕ) → is_member bytes_eq xs q ≡ true → is_member bytes_eq ys q ≡ true)
+    → distinct_count bytes_eq xs ≤ length ys
+distinct_count-within xs ys within =
+    length-le_from_is_member texts_alike (unique_keys bytes_eq xs) ys (IsDistinct-from_count texts_alike (unique_keys bytes_eq xs) (count-unique xs))
+    (λ q yes. within q (sym (is_member-unique xs q) ∙ yes))

@@ -3,8 +3,9 @@ use Rattle.std.proofs.Common.{◌≡◌, ℕ, zero, suc, ◌+◌, ◌-◌, ◌<�
 use Rattle.std.proofs.lemmas.Bool.{lt-ltb, le-ltb, cases_lt}
 use Rattle.nfg_decode.specs.declared.encoding.Encoding.{Encoding}
 use Rattle.nfg_decode.specs.Encoding.{decode}
-use Rattle.nfg_syn.specs.OwnTexts.{AreTextsOf, known_of}
+use Rattle.nfg_syn.specs.Known.{Texts, IsKnowledge}
 use Rattle.nfg_syn.specs.Represents.{Represents, AreGraphemes, AreKnown}
+use Rattle.nfg_syn.specs.Seen.{Seen}
 use Rattle.nfg_syn.specs.RepresentsLaws.{Represents-length, Represents-take, Represents-drop}
 use Rattle.nfg_strand.specs.Value.{Rope}
 use Rattle.nfg_strand.specs.Pieces as pieces
@@ -15,72 +16,72 @@ use Rattle.nfg_work.specs.declared.output.Cause.TheVariants.{AllTooLong, OutOfRa
 use Rattle.nfg_work.specs.declared.output.FileRead.{FileRead}
 use Rattle.nfg_work.specs.declared.output.FileRead.TheVariants.{Bytes}
 use Rattle.nfg_work.specs.declared.stop.Stop.{Stop}
-use Rattle.nfg_work.specs.declared.stop.Stop.TheVariants.{Refused, OutOfMemory}
+use Rattle.nfg_work.specs.declared.stop.Stop.TheVariants.{Refused, RowFull, NoPortion, OutOfMemory}
 use Rattle.nfg_work.specs.Values.{Value, no_value, part}
 use Rattle.nfg_work.specs.Evaluation.{State, value_of, load, define_decoded, define_part}
-use Rattle.nfg_work.specs.Holding.{IsStringOf, Holds, IsHeld, Follows, IsDefined}
+use Rattle.nfg_work.specs.Holding.{IsStringOf, Holds, IsHeld, Does, Follows, IsDefined}
 use Rattle.nfg_work.proofs.Narrow.{at_most_same}
 use Rattle.nfg_work.proofs.Strings.{AreStringsOf-at, AreStringsOf-push}
 
 -- only the output before counts
-Follows-same : (places : ℕ) (reads : List FileRead) (old other new : Evaluation) (result : Result (Unit {0}) Stop) (step : Result State Cause)
-    → old.output ≡ other.output → Follows places reads old new result step → Follows places reads other new result step
-Follows-same places reads old other new (Ok done) step same f = f
-Follows-same places reads old other new (Err (Refused cause)) step same f = (f.0, f.1 ∙ same)
-Follows-same places reads old other new (Err OutOfMemory) step same f = tt
+Follows-same : (places : ℕ) (pass after : Seen) (reads : List FileRead) (used : List (List ℕ)) (old other new : Evaluation) (result : Result (Unit {0}) Stop) (step : Result State Cause)
+    → old.output ≡ other.output → Follows places pass after reads used old new result step → Follows places pass after reads used other new result step
+Follows-same places pass after reads used old other new (Ok done) step same f = f
+Follows-same places pass after reads used old other new (Err (Refused cause)) step same f = (f.0, f.1 ∙ same)
+Follows-same places pass after reads used old other new (Err RowFull) step same f = (f.0, f.1 ∙ same)
+Follows-same places pass after reads used old other new (Err NoPortion) step same f = (f.0, f.1 ∙ same)
+Follows-same places pass after reads used old other new (Err OutOfMemory) step same f = tt
 
 -- a load does what the next of what was read asks for
-pub read_follows : (places : ℕ) (reads : List FileRead) (held new : Evaluation) (result : Result (Unit {0}) Stop) (e : Encoding) (read : FileRead) (bytes slice : List ℕ) (state : State)
-    → Holds places reads held state → held.next_read < length reads → read ≡ get_or reads held.next_read read → read ≡ Bytes bytes → slice ≡ bytes
-    → ((next : State) → Holds places reads (record held { next_read = held.next_read + 1 }) next
-    → Follows places reads (record held { next_read = held.next_read + 1 }) new result (define_decoded places next (length slice) (decode e slice)))
-    → Follows places reads held new result (load places state e state.reads)
-read_follows places reads held new result e read bytes slice state h within found is same done =
+pub read_follows : (places : ℕ) (pass after : Seen) (reads : List FileRead) (held new : Evaluation) (result : Result (Unit {0}) Stop) (e : Encoding) (read : FileRead) (bytes slice : List ℕ) (state : State)
+    → Holds pass.known reads held state → held.next_read < length reads → read ≡ get_or reads held.next_read read → read ≡ Bytes bytes → slice ≡ bytes
+    → ((next : State) → Holds pass.known reads (record held { next_read = held.next_read + 1 }) next
+    → Follows places pass after reads next.used (record held { next_read = held.next_read + 1 }) new result (define_decoded places next (length slice) (decode e slice)))
+    → Follows places pass after reads state.used held new result (load places state e state.reads)
+read_follows places pass after reads held new result e read bytes slice state h within found is same done =
     let rest = drop (held.next_read + 1) reads in
     let more : suc held.next_read ≡ held.next_read + 1 = omega arith in
     let reads_are : state.reads ≡ Bytes slice ∷ rest =
     sym h.left ∙ drop-cons reads held.next_read read within ∙ (λ i. (sym found ∙ is ∙ ap (λ b. Bytes b) (sym same)) i ∷ drop (more i) reads) in
     let next : State = record state { reads = rest } in
-    let holds : Holds places reads (record held { next_read = held.next_read + 1 }) next = record {
-      size = h.size;
-      table = h.table;
+    let holds : Holds pass.known reads (record held { next_read = held.next_read + 1 }) next = record {
       strings = h.strings;
       used = h.used;
       spent = h.spent;
       output = h.output;
       left = refl;
     } in
-    subst (λ rs. Follows places reads held new result (load places state e rs)) (sym reads_are)
-    (Follows-same places reads (record held { next_read = held.next_read + 1 }) held new result (define_decoded places next (length slice) (decode e slice)) refl (done next holds))
+    subst (λ rs. Follows places pass after reads state.used held new result (load places state e rs)) (sym reads_are)
+    (Follows-same places pass after reads state.used (record held { next_read = held.next_read + 1 }) held new result (define_decoded places next (length slice) (decode e slice)) refl (done next holds))
 
 -- the string of a name stands for the value of the name
-pub named : (places : ℕ) (reads : List FileRead) (held : Evaluation) (state : State) (name : ℕ) (nothing string : Rope) → Holds places reads held state
+pub named : (known : Texts) (reads : List FileRead) (held : Evaluation) (state : State) (name : ℕ) (nothing string : Rope) → Holds known reads held state
     → nothing.graphemes ≡ [] → nothing.pieces ≡ [] → string ≡ slice_index_or held.strings.items name nothing
-    → IsStringOf held.pass.texts string (value_of state name)
-named places reads held state name nothing string h none no_pieces is =
-    let empty : IsStringOf held.pass.texts nothing no_value = record { represents = rw none tt; pieces = no_pieces } in
-    rw is (AreStringsOf-at held.pass.texts held.strings.items state.values name nothing no_value h.strings empty)
+    → IsStringOf known string (value_of state name)
+named known reads held state name nothing string h none no_pieces is =
+    let empty : IsStringOf known nothing no_value = record { represents = rw none tt; pieces = no_pieces } in
+    rw is (AreStringsOf-at known held.strings.items state.values name nothing no_value h.strings empty)
 
 -- and for a list of graphemes
-pub named_graphemes : (places : ℕ) (reads : List FileRead) (held : Evaluation) (name : ℕ) (nothing string : Rope) → IsHeld places reads held
+pub named_graphemes : (known : Texts) (reads : List FileRead) (held : Evaluation) (name : ℕ) (nothing string : Rope) → IsHeld known reads held
     → nothing.graphemes ≡ [] → nothing.pieces ≡ [] → string ≡ slice_index_or held.strings.items name nothing
-    → AreGraphemes (known_of held.pass.texts) string.graphemes
-named_graphemes places reads held name nothing string is none no_pieces at =
+    → AreGraphemes known string.graphemes
+named_graphemes known reads held name nothing string is none no_pieces at =
     let state = is.0 in
-    ((value_of state name).clusters, (named places reads held state name nothing string is.1 none no_pieces at).represents, is.2 name)
+    ((value_of state name).clusters, (named known reads held state name nothing string is.1 none no_pieces at).represents, is.2 name)
 
 -- so each of its numbers is known
-pub named_known : (places : ℕ) (reads : List FileRead) (held : Evaluation) (name : ℕ) (nothing string : Rope) → IsHeld places reads held
+pub named_known : (known : Texts) (reads : List FileRead) (held : Evaluation) (name : ℕ) (nothing string : Rope) → IsHeld known reads held
     → nothing.graphemes ≡ [] → nothing.pieces ≡ [] → string ≡ slice_index_or held.strings.items name nothing
-    → AreKnown (known_of held.pass.texts) string.graphemes
-named_known places reads held name nothing string is none no_pieces at =
-    let all = named_graphemes places reads held name nothing string is none no_pieces at in (all.0, all.1)
+    → AreKnown known string.graphemes
+named_known known reads held name nothing string is none no_pieces at =
+    let all = named_graphemes known reads held name nothing string is none no_pieces at in (all.0, all.1)
 
 -- a start past the end
-pub part_outside : (texts : List (List ℕ)) (state : State) (string : Rope) (value : Value) (start count : ℕ) → IsStringOf texts string value
+pub part_outside : (known : Texts) (state : State) (string : Rope) (value : Value) (start count : ℕ) → IsStringOf known string value
     → length string.graphemes < start → define_part state value start count ≡ Err OutOfRange
-part_outside texts state string value start count is past =
-    let long = Represents-length (known_of texts) string.graphemes value.clusters is.represents in
+part_outside known state string value start count is past =
+    let long = Represents-length known string.graphemes value.clusters is.represents in
     let over : nat_lt (length value.clusters) start ≡ true = lt-ltb (length value.clusters) start (omega (arith, long, past)) in
     rw over refl
 
@@ -102,67 +103,68 @@ range_is xs start count inside =
     take-enough (drop start xs) (min (length xs) (start + count) - start) count (omega (arith, left, inside))
 
 -- the part of the string stands for the part of the value
-pub part_is : (size : ℕ) (texts : List (List ℕ)) (string made : Rope) (value : Value) (start count : ℕ) → AreTextsOf size texts → IsStringOf texts string value
+pub part_is : (size : ℕ) (known places : Texts) (string made : Rope) (value : Value) (start count : ℕ) → IsKnowledge size known places → IsStringOf known string value
     → start ≤ length string.graphemes
     → made.graphemes ≡ slice_range string.graphemes start (min (length string.graphemes) (start + count))
     → made.pieces ≡ pieces.at_most_64 made.graphemes (pieces.clipped string.pieces start (min (length string.graphemes) (start + count)))
-    → IsStringOf texts made (part value start count)
-part_is size texts string made value start count are is inside graphemes_are pieces_are =
-    let long = Represents-length (known_of texts) string.graphemes value.clusters is.represents in
+    → IsStringOf known made (part value start count)
+part_is size known places string made value start count knows is inside graphemes_are pieces_are =
+    let long = Represents-length known string.graphemes value.clusters is.represents in
     let graphemes = graphemes_are ∙ range_is string.graphemes start count inside in
-    let represents : Represents (known_of texts) made.graphemes (take count (drop start value.clusters)) =
-    rw graphemes (Represents-take (known_of texts) count _ _ (Represents-drop (known_of texts) start string.graphemes value.clusters is.represents)) in
+    let represents : Represents known made.graphemes (take count (drop start value.clusters)) =
+    rw graphemes (Represents-take known count _ _ (Represents-drop known start string.graphemes value.clusters is.represents)) in
     let clips : pieces.clipped string.pieces start (min (length string.graphemes) (start + count))
     ≡ pieces.clipped value.pieces start (min (length value.clusters) (start + count)) =
     (λ i. pieces.clipped (is.pieces i) start (min (long i) (start + count))) in
     record {
       represents = represents;
       pieces = pieces_are ∙ ap (pieces.at_most_64 made.graphemes) clips
-          ∙ at_most_same size texts are made.graphemes (take count (drop start value.clusters)) (pieces.clipped value.pieces start (min (length value.clusters) (start + count))) represents;
+          ∙ at_most_same size known places knows made.graphemes (take count (drop start value.clusters)) (pieces.clipped value.pieces start (min (length value.clusters) (start + count))) represents;
     }
 
 spent_with : (spent held cost count : ℕ) (over : Bool) → held ≡ spent → cost ≡ count → nat_lt 536870912 (held + cost) ≡ over → nat_lt 536870912 (spent + count) ≡ over
 spent_with spent held cost count over same_spent same_cost e = (λ i. nat_lt 536870912 (sym same_spent i + sym same_cost i)) ∙ e
 
-inside_test : (texts : List (List ℕ)) (string : Rope) (value : Value) (start : ℕ) → IsStringOf texts string value → start ≤ length string.graphemes
+inside_test : (known : Texts) (string : Rope) (value : Value) (start : ℕ) → IsStringOf known string value → start ≤ length string.graphemes
     → nat_lt (length value.clusters) start ≡ false
-inside_test texts string value start is inside =
-    let long = Represents-length (known_of texts) string.graphemes value.clusters is.represents in
+inside_test known string value start is inside =
+    let long = Represents-length known string.graphemes value.clusters is.represents in
     le-ltb (length value.clusters) start (omega (arith, long, inside))
 
 -- a part that costs too much
-pub part_over : (places cost : ℕ) (reads : List FileRead) (held : Evaluation) (state : State) (string made : Rope) (value : Value) (start count : ℕ)
-    → Holds places reads held state → IsStringOf held.pass.texts string value → start ≤ length string.graphemes
-    → IsStringOf held.pass.texts made (part value start count) → cost ≡ length made.graphemes → nat_lt 536870912 (held.spent + cost) ≡ true
+pub part_over : (cost : ℕ) (known : Texts) (reads : List FileRead) (held : Evaluation) (state : State) (string made : Rope) (value : Value) (start count : ℕ)
+    → Holds known reads held state → IsStringOf known string value → start ≤ length string.graphemes
+    → IsStringOf known made (part value start count) → cost ≡ length made.graphemes → nat_lt 536870912 (held.spent + cost) ≡ true
     → define_part state value start count ≡ Err AllTooLong
-part_over places cost reads held state string made value start count h is inside part cost_is over =
-    let long = Represents-length (known_of held.pass.texts) made.graphemes _ part.represents in
+part_over cost known reads held state string made value start count h is inside part cost_is over =
+    let long = Represents-length known made.graphemes _ part.represents in
     let much = spent_with state.spent held.spent cost _ true h.spent (cost_is ∙ long) over in
-    rw (inside_test held.pass.texts string value start is inside, much) refl
+    rw (inside_test known string value start is inside, much) refl
 
 -- a part that is the next name's
-pub part_follows : (places cost : ℕ) (reads : List FileRead) (old new : Evaluation) (state : State) (string made : Rope) (value : Value) (start count : ℕ)
-    (result : Result (Unit {0}) Stop) → Holds places reads old state → IsStringOf old.pass.texts string value → start ≤ length string.graphemes
-    → IsStringOf old.pass.texts made (part value start count) → cost ≡ length made.graphemes → nat_lt 536870912 (old.spent + cost) ≡ false
+pub part_does : (cost : ℕ) (known : Texts) (reads : List FileRead) (old new : Evaluation) (state : State) (string made : Rope) (value : Value) (start count : ℕ)
+    (result : Result (Unit {0}) Stop) → Holds known reads old state → IsStringOf known string value → start ≤ length string.graphemes
+    → IsStringOf known made (part value start count) → cost ≡ length made.graphemes → nat_lt 536870912 (old.spent + cost) ≡ false
     → OnOk result (IsDefined old new cost made) → IfErr result (λ stop. stop ≡ OutOfMemory)
-    → Follows places reads old new result (define_part state value start count)
-part_follows places cost reads old new state string made value start count (Ok done) h is inside is_part cost_is fits d none =
-    let long = Represents-length (known_of old.pass.texts) made.graphemes (part value start count).clusters is_part.represents in
+    → Does known reads state.used old new result (define_part state value start count)
+part_does cost known reads old new state string made value start count (Ok done) h is inside is_part cost_is fits d none =
+    let long = Represents-length known made.graphemes (part value start count).clusters is_part.represents in
     let few = spent_with state.spent old.spent cost (length (part value start count).clusters) false h.spent (cost_is ∙ long) fits in (
       record state { values = state.values ++ part value start count ∷ []; spent = state.spent + length (part value start count).clusters },
-      rw (inside_test old.pass.texts string value start is inside, few) refl,
+      rw (inside_test known string value start is inside, few) refl,
       record {
-        size = d.table ∙ h.size;
-        table = rw d.pass h.table;
-        strings = rw (d.pass, d.strings) (AreStringsOf-push old.pass.texts old.strings.items state.values made (part value start count) h.strings is_part);
-        used = rw d.pass h.used;
+        strings = rw d.strings (AreStringsOf-push known old.strings.items state.values made (part value start count) h.strings is_part);
+        used = h.used;
         spent = d.spent ∙ (λ i. h.spent i + (cost_is ∙ long) i);
         output = d.output ∙ h.output;
         left = rw d.next_read h.left;
       },
+      refl,
     )
-part_follows places cost reads old new state string made value start count (Err (Refused cause)) h is inside is_part cost_is fits d none = cc
-part_follows places cost reads old new state string made value start count (Err OutOfMemory) h is inside is_part cost_is fits d none = tt
+part_does cost known reads old new state string made value start count (Err (Refused cause)) h is inside is_part cost_is fits d none = cc
+part_does cost known reads old new state string made value start count (Err RowFull) h is inside is_part cost_is fits d none = cc
+part_does cost known reads old new state string made value start count (Err NoPortion) h is inside is_part cost_is fits d none = cc
+part_does cost known reads old new state string made value start count (Err OutOfMemory) h is inside is_part cost_is fits d none = tt
 
 -- the start is inside, since the part was not refused
 pub part_inside : {X : Type 0} (string : Rope) (start : ℕ) (made : X) → ((length string.graphemes < start) → Ok made ≡ Err SubError.OutOfRange) → start ≤ length string.graphemes

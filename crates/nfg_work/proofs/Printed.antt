@@ -4,7 +4,7 @@ use Rattle.std.proofs.lemmas.Bool.{lt-ltb}
 use Rattle.std.proofs.lemmas.List.{take_at}
 use Rattle.std.specs.List.{flat_map}
 use Rattle.std.proofs.Math.Seq.{take-append_seam}
-use Rattle.nfg_syn.specs.OwnTexts.{known_of}
+use Rattle.nfg_syn.specs.Known.{Texts}
 use Rattle.nfg_syn.specs.Represents.{Represents}
 use Rattle.nfg_work.specs.declared.stop.Stop.{Stop}
 use Rattle.nfg_work.specs.Printing.{shown, shown_cluster, line_of}
@@ -15,13 +15,13 @@ use Rattle.nfg_work.proofs.Joined.{join-closed}
 use Rattle.nfg_work.proofs.Tables.{length-take_le}
 
 -- what is read of a string from a place on stands for that part of the clusters
-pub part_represents : (texts now : List (List ℕ)) (gs left numbers old : List ℤ) (clusters : List (List ℕ)) (at count : ℕ) → now ≡ texts → left ≡ drop at gs
-    → count ≤ length left → numbers ≡ take count left ++ drop count old → Represents (known_of texts) gs clusters
-    → Represents (known_of now) (take count numbers) (take count (drop at clusters))
-part_represents texts now gs left numbers old clusters at count same left_is few read are =
+pub part_represents : (known now : Texts) (gs left numbers old : List ℤ) (clusters : List (List ℕ)) (at count : ℕ) → now ≡ known → left ≡ drop at gs
+    → count ≤ length left → numbers ≡ take count left ++ drop count old → Represents known gs clusters
+    → Represents now (take count numbers) (take count (drop at clusters))
+part_represents known now gs left numbers old clusters at count same left_is few read are =
     let part : take count numbers ≡ take count (drop at gs) =
     ap (take count) read ∙ take_at (take count left) (drop count old) count (length-take_le count left few) ∙ ap (take count) left_is in
-    rw (same, part) (Represents-take (known_of texts) count (drop at gs) (drop at clusters) (Represents-drop (known_of texts) at gs clusters are))
+    rw (same, part) (Represents-take known count (drop at gs) (drop at clusters) (Represents-drop known at gs clusters are))
 
 line_length : (clusters : List (List ℕ)) → length (flat_map shown_with_space clusters) ≤ length (line_of (shown clusters))
 line_length [] = omega arith

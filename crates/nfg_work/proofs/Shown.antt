@@ -5,7 +5,6 @@ use Rattle.std.specs.List.{flat_map}
 use Rattle.std.specs.Fmt.{digits}
 use Rattle.nfg_syn.specs.Known.{Texts}
 use Rattle.nfg_syn.specs.Represents.{Represents, spelling}
-use Rattle.nfg_syn.specs.OwnTexts.{known_of}
 use Rattle.nfg_syn.specs.RepresentsLaws.{spelling-one, Represents-drop}
 use Rattle.nfg_work.specs.Separated.{shown_with_space}
 use Rattle.nfg_work.proofs.Joined.{mapped-next, spelled_at, take-whole}
@@ -23,9 +22,9 @@ shown_more known ns clusters i c at k n out bytes are there code room front more
     ∙ ap (λ v. take at out ++ v) (more ∙ ap shown_with_space (sym one)))
 
 -- the rest of the numbers stands for the rest of the clusters
-pub rest_represents : (texts now : List (List ℕ)) (ns : List ℤ) (clusters : List (List ℕ)) (at : ℕ) → now ≡ texts → Represents (known_of texts) ns clusters
-    → Represents (known_of now) (take (length ns - at) (drop at ns)) (drop at clusters)
-rest_represents texts now ns clusters at same are =
+pub rest_represents : (known now : Texts) (ns : List ℤ) (clusters : List (List ℕ)) (at : ℕ) → now ≡ known → Represents known ns clusters
+    → Represents now (take (length ns - at) (drop at ns)) (drop at clusters)
+rest_represents known now ns clusters at same are =
     let behind = length-drop at ns in
     let whole : take (length ns - at) (drop at ns) ≡ drop at ns = take-whole (drop at ns) (length ns - at) (omega (arith, behind)) in
-    rw (same, whole) (Represents-drop (known_of texts) at ns clusters are)
+    rw (same, whole) (Represents-drop known at ns clusters are)

@@ -1,9 +1,11 @@
--- What a table of one caller says of its numbers.
+-- What a table says of its numbers.
 use Rattle.std.proofs.Common.{◌≡◌, ℕ, zero, suc, ◌+◌, ◌<◌, ◌≤◌, List, [], ◌∷◌, length, slice_get, slice_index_or, Some, IfSome, Option, ℤ, pos, negsuc, nat_abs, take, slice_set, refl, sym, ap, ◌∙◌, subst, arith}
-use Rattle.nfg_syn.specs.Known.{Texts, IsSame, text_at}
+use Rattle.nfg_syn.specs.Known.{Texts, IsSame, IsKnowledge, text_at}
 use Rattle.nfg_syn.specs.KnownLaws.{same_text}
-use Rattle.nfg_syn.specs.OwnTexts.{OwnTexts, IsOwnPass, known_of}
-use Rattle.nfg_syn.specs.OwnTextsLaws.{numbers_of}
+use Rattle.nfg_syn.specs.Seen.{Seen, Keeps, SameCounts}
+use Rattle.nfg_syn.specs.SeenLaws.{Keeps-refl, Keeps-trans, SameCounts-refl, SameCounts-trans}
+use Rattle.nfg_syn.specs.LearnedLaws.{IsSame-refl, IsSame-trans}
+use Rattle.nfg_ops.specs.Reads.{HasAsked}
 use Rattle.nfg_syn.specs.Represents.{spelling}
 use Rattle.nfg_syn.specs.RepresentsLaws.{spelling-one}
 use Rattle.nfg_work.proofs.Joined.{take-whole}
@@ -18,13 +20,33 @@ slice_get-same (x ∷ xs) (y ∷ ys) same =
     let rest = slice_get-same xs ys (λ k. same (suc k)) in
     cc
 
-pub texts_same : (old new : List (List ℕ)) → IsSame (known_of old) (known_of new) → new ≡ old
-texts_same old new same = slice_get-same new old (λ k. same (suc k))
+-- maps with the same entries are one
+pub known_same : (old new : Texts) → IsSame old new → new ≡ old
+known_same old new same = λ i k. same k i
+
+-- a pass that was only asked knows what it knew
+pub asked_same : (old new : Seen) → HasAsked old new → new.known ≡ old.known
+asked_same old new asked = known_same old.known new.known asked.known
+
+-- a pass that was not lent
+pub asked_none : (pass : Seen) → HasAsked pass pass
+asked_none pass = record { kept = Keeps-refl pass; counts = SameCounts-refl pass; known = IsSame-refl pass.known }
+
+-- a pass that was asked again
+pub asked_again : (old mid new : Seen) → HasAsked old mid → Keeps mid new → SameCounts mid new → IsSame mid.known new.known → HasAsked old new
+asked_again old mid new asked kept counts known = record {
+  kept = Keeps-trans old mid new asked.kept kept;
+  counts = SameCounts-trans old mid new asked.counts counts;
+  known = IsSame-trans old.known mid.known new.known asked.known known;
+}
+
+pub asked_both : (old mid new : Seen) → HasAsked old mid → HasAsked mid new → HasAsked old new
+asked_both old mid new first second = asked_again old mid new first second.kept second.counts second.known
 
 -- a negative number stands for two code points or more
-pub several_at : (size : ℕ) (pass : OwnTexts) (n : ℤ) (t : List ℕ) → IsOwnPass size pass → text_at (known_of pass.texts) n ≡ Some t → 2 ≤ length t
-several_at size pass (pos c) t own e = cc
-several_at size pass (negsuc m) t own e = (numbers_of size pass.texts own.lawful m t e).1.several
+pub several_at : (size : ℕ) (known places : Texts) (n : ℤ) (t : List ℕ) → IsKnowledge size known places → text_at known n ≡ Some t → 2 ≤ length t
+several_at size known places (pos c) t knows e = cc
+several_at size known places (negsuc m) t knows e = (knows.numbers m t e).1.several
 
 pub slice_get-at : (xs : List ℤ) (i : ℕ) (d : ℤ) → i < length xs → slice_get xs i ≡ Some (slice_index_or xs i d)
 slice_get-at [] i d within = absurd (omega (arith, within))
@@ -37,24 +59,24 @@ pub record IsCounted (r : ℕ) (t : List ℕ) : Type 0 where
   pub several : 2 ≤ r
   pub within : r ≤ 1024
 
-pub counted : (size : ℕ) (pass : OwnTexts) (n : ℤ) (t : List ℕ) (r : ℕ) → IsOwnPass size pass → text_at (known_of pass.texts) n ≡ Some t
-    → IfSome (text_at (known_of pass.texts) n) (λ u. r ≡ length u) → IsCounted r t
-counted size pass (pos c) t r own e len = cc
-counted size pass (negsuc m) t r own e len =
-    let is = (numbers_of size pass.texts own.lawful m t e).1 in
+pub counted : (size : ℕ) (known places : Texts) (n : ℤ) (t : List ℕ) (r : ℕ) → IsKnowledge size known places → text_at known n ≡ Some t
+    → IfSome (text_at known n) (λ u. r ≡ length u) → IsCounted r t
+counted size known places (pos c) t r knows e len = cc
+counted size known places (negsuc m) t r knows e len =
+    let is = (knows.numbers m t e).1 in
     let several = is.several in
     let within = is.within_limit in
     let same : r ≡ length t = (rw e at len) in
     record { len = same; several = omega (arith, several, same); within = omega (arith, within, same) }
 
-pub count_facts : (size : ℕ) (pass : OwnTexts) (m n : ℤ) (t : List ℕ) (r : ℕ) → IsOwnPass size pass → m ≡ n → text_at (known_of pass.texts) n ≡ Some t
-    → IfSome (text_at (known_of pass.texts) m) (λ u. r ≡ length u) → IsCounted r t
-count_facts size pass m n t r own same e len = counted size pass m t r own (ap (text_at (known_of pass.texts)) same ∙ e) len
+pub count_facts : (size : ℕ) (known places : Texts) (m n : ℤ) (t : List ℕ) (r : ℕ) → IsKnowledge size known places → m ≡ n → text_at known n ≡ Some t
+    → IfSome (text_at known m) (λ u. r ≡ length u) → IsCounted r t
+count_facts size known places m n t r knows same e len = counted size known places m t r knows (ap (text_at known) same ∙ e) len
 
-pub code_facts : (old now : List (List ℕ)) (n : ℤ) (t : List ℕ) (k r : ℕ) → now ≡ old → text_at (known_of old) n ≡ Some t
-    → IfSome (text_at (known_of now) n) (λ u. slice_get u k ≡ Some r) → slice_get t k ≡ Some r
+pub code_facts : (old now : Texts) (n : ℤ) (t : List ℕ) (k r : ℕ) → now ≡ old → text_at old n ≡ Some t
+    → IfSome (text_at now n) (λ u. slice_get u k ≡ Some r) → slice_get t k ≡ Some r
 code_facts old now n t k r same e code =
-    let here : text_at (known_of now) n ≡ Some t = ap (λ v. text_at (known_of v) n) same ∙ e in
+    let here : text_at now n ≡ Some t = ap (λ v. text_at v n) same ∙ e in
     let P : Option (List ℕ) → Type 0 = λ o. IfSome o (λ u. slice_get u k ≡ Some r) in subst P here code
 
 -- one more element is written

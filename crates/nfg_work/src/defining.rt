@@ -3,13 +3,13 @@ ghost use Rattle.std.specs.Prelude.{◌≡◌, ℕ, ◌+◌, ◌≤◌, nat_lt, 
 ghost use Rattle.nfg_text.specs.Text.{IsText};
 ghost use Rattle.nfg_text.specs.Graphemes.{graphemes_of};
 ghost use Rattle.nfg_decode.specs.Encoding.{decode};
-ghost use Rattle.nfg_syn.specs.OwnTexts.{IsOwnPass, seen_of};
-ghost use Rattle.nfg_syn.specs.Seen.{Keeps};
+ghost use Rattle.nfg_syn.specs.Known.{Texts, IsKnowledge};
+ghost use Rattle.nfg_syn.specs.Seen.{Keeps, SameCounts};
 ghost use Rattle.nfg_stream.specs.Load.{HasLoaded};
 ghost use Rattle.nfg_work.specs.declared.output.FileRead.{FileRead};
 ghost use Rattle.nfg_work.specs.declared.stop.Stop.{Stop};
 ghost use Rattle.nfg_work.specs.Evaluation.{State, define_new, define_decoded, load as load_next, define_part, value_of, AreWithinLimit};
-ghost use Rattle.nfg_work.specs.Holding.{Holds, Follows, IsStopOf, IsStopAfter, IsDefined};
+ghost use Rattle.nfg_work.specs.Holding.{Holds, Does, Follows, IsStopOf, IsStopAfter, IsDefined};
 
 use crate::evaluation::Evaluation;
 use crate::naming::string_of_name;
@@ -19,7 +19,7 @@ use nfg_decode::Encoding;
 use nfg_ops::{SubError, substring};
 use nfg_strand::NString;
 use nfg_stream::{DecodeStream, LoadError, string_of};
-use nfg_syn::{OwnPass, OwnTable};
+use nfg_syn::Synthetics;
 use std::alloc::Global;
 
 /// What all strings of a script may cost together.
@@ -42,8 +42,8 @@ fn stop_of(error: LoadError) -> Stop
     match error {
         LoadError::Malformed { at } => Stop::Refused(Cause::Malformed { at }),
         LoadError::ClusterLong { at } => Stop::Refused(Cause::ClusterTooLong { at }),
-        LoadError::RowFull => Stop::Refused(Cause::TableFull),
-        LoadError::NoPortion => Stop::Refused(Cause::TableFull),
+        LoadError::RowFull => Stop::RowFull,
+        LoadError::NoPortion => Stop::NoPortion,
         LoadError::OutOfMemory => Stop::OutOfMemory,
     }
 }
@@ -81,37 +81,47 @@ pub(crate) fn define(held: &mut Evaluation, cost: u64, string: NString) -> Resul
 }
 
 /// The next name gets the graphemes of a text.
-pub(crate) fn text(alloc: Global, held: &mut Evaluation, codes: &[u32]) -> Result<(), Stop>
+pub(crate) fn text<T: Synthetics>(
+    alloc: Global,
+    table: &T,
+    pass: &mut T::Pass,
+    held: &mut Evaluation,
+    codes: &[u32],
+) -> Result<(), Stop>
     requires text { IsText codes.now }
-    requires table { IsOwnPass held.old.table held.old.pass }
-    ensures { (places : ℕ) (reads : List FileRead) (state : State)
-        → Holds places reads held.old state
-        → Follows places reads held.old held.new result
-        (define_new places state (length codes.now) (graphemes_of codes.now)) }
+    requires table { T.is_of table.now pass.old }
+    ensures table { T.is_of table.now pass.new }
+    ensures keeps { Keeps (T.seen pass.old) (T.seen pass.new) }
+    ensures counts { SameCounts (T.seen pass.old) (T.seen pass.new) }
+    ensures defined { (reads : List FileRead) (state : State)
+        → Holds (T.seen pass.old).known reads held.old state
+        → Follows (T.size table.now) (T.seen pass.old) (T.seen pass.new) reads state.used held.old held.new result
+        (define_new (T.size table.now) state (length codes.now) (graphemes_of codes.now)) }
 {
     let cost = codes.len() as u64;
     if is_over(held.spent, cost) {
         return Err(Stop::Refused(Cause::AllTooLong));
     }
-    match string_of(alloc, &held.table, &mut held.pass, codes) {
+    match string_of(alloc, table, pass, codes) {
         Ok(string) => define(held, cost, string),
         Err(error) => Err(stop_of(error)),
     }
 }
 
 /// The string of a file's bytes.
-fn load_bytes(
+fn load_bytes<T: Synthetics>(
     alloc: Global,
-    table: &OwnTable,
-    pass: &mut OwnPass,
+    table: &T,
+    pass: &mut T::Pass,
     e: Encoding,
     bytes: &[u8],
 ) -> Result<NString, LoadError>
-    requires table { IsOwnPass table.now pass.old }
+    requires table { T.is_of table.now pass.old }
     requires limit { length bytes.now ≤ 67108864 }
-    ensures table { IsOwnPass table.now pass.new }
-    ensures keeps { Keeps (seen_of pass.old) (seen_of pass.new) }
-    ensures loaded { HasLoaded (decode e bytes.now) (seen_of pass.old) (seen_of pass.new) result }
+    ensures table { T.is_of table.now pass.new }
+    ensures keeps { Keeps (T.seen pass.old) (T.seen pass.new) }
+    ensures counts { SameCounts (T.seen pass.old) (T.seen pass.new) }
+    ensures loaded { HasLoaded (decode e bytes.now) (T.seen pass.old) (T.seen pass.new) result }
 {
     let mut stream = DecodeStream::new(alloc, e);
     // The stream keeps a refusal, and answers it again at the end.
@@ -120,17 +130,27 @@ fn load_bytes(
 }
 
 /// The next name gets the text of a file's bytes.
-fn load_file(alloc: Global, held: &mut Evaluation, e: Encoding, bytes: &[u8]) -> Result<(), Stop>
-    requires table { IsOwnPass held.old.table held.old.pass }
+fn load_file<T: Synthetics>(
+    alloc: Global,
+    table: &T,
+    pass: &mut T::Pass,
+    held: &mut Evaluation,
+    e: Encoding,
+    bytes: &[u8],
+) -> Result<(), Stop>
     requires limit { length bytes.now ≤ 67108864 }
-    ensures { (places : ℕ) (reads : List FileRead) (state : State)
-        → Holds places reads held.old state
-        → Follows places reads held.old held.new result
-        (define_decoded places state (length bytes.now) (decode e bytes.now)) }
+    requires table { T.is_of table.now pass.old }
+    ensures table { T.is_of table.now pass.new }
+    ensures keeps { Keeps (T.seen pass.old) (T.seen pass.new) }
+    ensures counts { SameCounts (T.seen pass.old) (T.seen pass.new) }
+    ensures loaded { (reads : List FileRead) (state : State)
+        → Holds (T.seen pass.old).known reads held.old state
+        → Follows (T.size table.now) (T.seen pass.old) (T.seen pass.new) reads state.used held.old held.new result
+        (define_decoded (T.size table.now) state (length bytes.now) (decode e bytes.now)) }
 {
     let cost = bytes.len() as u64;
     let over = is_over(held.spent, cost);
-    match load_bytes(alloc, &held.table, &mut held.pass, e, bytes) {
+    match load_bytes(alloc, table, pass, e, bytes) {
         Ok(string) => {
             if over {
                 return Err(Stop::Refused(Cause::AllTooLong));
@@ -142,16 +162,22 @@ fn load_file(alloc: Global, held: &mut Evaluation, e: Encoding, bytes: &[u8]) ->
 }
 
 /// The next name gets what the next load has read.
-pub(crate) fn load(
+pub(crate) fn load<T: Synthetics>(
     alloc: Global,
+    table: &T,
+    pass: &mut T::Pass,
     held: &mut Evaluation,
     e: Encoding,
     reads: &[FileRead],
 ) -> Result<(), Stop>
-    requires table { IsOwnPass held.old.table held.old.pass }
     requires reads { AreWithinLimit reads.now }
-    ensures { (places : ℕ) (state : State) → Holds places reads.now held.old state
-        → Follows places reads.now held.old held.new result (load_next places state e state.reads) }
+    requires table { T.is_of table.now pass.old }
+    ensures table { T.is_of table.now pass.new }
+    ensures keeps { Keeps (T.seen pass.old) (T.seen pass.new) }
+    ensures counts { SameCounts (T.seen pass.old) (T.seen pass.new) }
+    ensures loaded { (state : State) → Holds (T.seen pass.old).known reads.now held.old state
+        → Follows (T.size table.now) (T.seen pass.old) (T.seen pass.new) reads.now state.used held.old held.new result
+        (load_next (T.size table.now) state e state.reads) }
 {
     match reads.get(held.next_read) {
         None => Err(Stop::Refused(Cause::CannotRead)),
@@ -159,7 +185,7 @@ pub(crate) fn load(
         Some(FileRead::TooLong) => Err(Stop::Refused(Cause::FileTooLong)),
         Some(FileRead::Bytes(bytes)) => {
             held.next_read += 1;
-            load_file(alloc, held, e, bytes.as_slice())
+            load_file(alloc, table, pass, held, e, bytes.as_slice())
         }
     }
 }
@@ -172,10 +198,10 @@ pub(crate) fn sub(
     start: u64,
     count: u64,
 ) -> Result<(), Stop>
-    ensures { (places : ℕ) (reads : List FileRead) (state : State)
-        → Holds places reads held.old state
-        → Follows places reads held.old held.new
-        result (define_part state (value_of state a) start count) }
+    ensures { (size : ℕ) (known places : Texts) (reads : List FileRead) (state : State)
+        → IsKnowledge size known places → Holds known reads held.old state
+        → Does known reads state.used held.old held.new result
+        (define_part state (value_of state a) start count) }
 {
     let nothing = NString::empty(alloc);
     let string = string_of_name(&held.strings, a, &nothing);

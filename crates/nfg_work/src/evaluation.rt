@@ -1,13 +1,10 @@
-//! What an evaluation keeps between two commands.
+//! What an evaluation keeps between two commands, besides its table.
 use nfg_strand::NString;
-use nfg_syn::{OwnPass, OwnTable};
 use nfg_text::ByteList;
 
 /// What an evaluation keeps between two commands.
 #[derive(Drop)]
 pub(crate) struct Evaluation {
-    pub(crate) table: OwnTable,
-    pub(crate) pass: OwnPass,
     /// The string of each name, in the order of definitions.
     pub(crate) strings: Vec<NString>,
     /// What all strings have cost.

@@ -1,5 +1,6 @@
 //! The commands that join: `cat` and `rep`.
-ghost use Rattle.std.specs.Prelude.{◌≡◌, ℕ, List, Some, None};
+ghost use Rattle.std.specs.Prelude.{◌≡◌, List, Some, None};
+ghost use Rattle.nfg_syn.specs.Seen.{Keeps, SameCounts};
 ghost use Rattle.nfg_work.specs.declared.output.FileRead.{FileRead};
 ghost use Rattle.nfg_work.specs.Evaluation.{State, define_cat, define_rep, value_of};
 ghost use Rattle.nfg_work.specs.Holding.{Holds, IsHeld, Follows, IsSeamStop, join_refusal};
@@ -11,6 +12,7 @@ use crate::naming::string_of_name;
 use crate::stop::Stop;
 use nfg_seam::{SeamError, concat, repeat};
 use nfg_strand::NString;
+use nfg_syn::Synthetics;
 use std::alloc::Global;
 
 /// The most graphemes that a line joins.
@@ -36,19 +38,30 @@ fn stop_of_seam(error: SeamError) -> Stop
     match error {
         SeamError::TooLong => Stop::Refused(Cause::StringTooLong),
         SeamError::ClusterLong { at } => Stop::Refused(Cause::ClusterTooLong { at }),
-        SeamError::RowFull => Stop::Refused(Cause::TableFull),
-        SeamError::NoPortion => Stop::Refused(Cause::TableFull),
+        SeamError::RowFull => Stop::RowFull,
+        SeamError::NoPortion => Stop::NoPortion,
         SeamError::OutOfMemory => Stop::OutOfMemory,
     }
 }
 
 /// The next name gets two strings, joined.
-pub(crate) fn cat(alloc: Global, held: &mut Evaluation, a: u32, b: u32) -> Result<(), Stop>
-    requires held { (reads : List FileRead) × IsHeld held.old.table reads held.old }
-    ensures { (places : ℕ) (reads : List FileRead) (state : State)
-        → Holds places reads held.old state
-        → Follows places reads held.old held.new result
-        (define_cat places state (value_of state a) (value_of state b)) }
+pub(crate) fn cat<T: Synthetics>(
+    alloc: Global,
+    table: &T,
+    pass: &mut T::Pass,
+    held: &mut Evaluation,
+    a: u32,
+    b: u32,
+) -> Result<(), Stop>
+    requires table { T.is_of table.now pass.old }
+    requires held { (reads : List FileRead) × IsHeld (T.seen pass.old).known reads held.old }
+    ensures table { T.is_of table.now pass.new }
+    ensures keeps { Keeps (T.seen pass.old) (T.seen pass.new) }
+    ensures counts { SameCounts (T.seen pass.old) (T.seen pass.new) }
+    ensures joined { (reads : List FileRead) (state : State)
+        → Holds (T.seen pass.old).known reads held.old state
+        → Follows (T.size table.now) (T.seen pass.old) (T.seen pass.new) reads state.used held.old held.new result
+        (define_cat (T.size table.now) state (value_of state a) (value_of state b)) }
 {
     let nothing = NString::empty(alloc);
     let left = string_of_name(&held.strings, a, &nothing);
@@ -57,19 +70,30 @@ pub(crate) fn cat(alloc: Global, held: &mut Evaluation, a: u32, b: u32) -> Resul
     if let Some(cause) = join_refusal(held.spent, count) {
         return Err(Stop::Refused(cause));
     }
-    match concat(alloc, &held.table, &mut held.pass, left, right) {
+    match concat(alloc, table, pass, left, right) {
         Ok(string) => define(held, count, string),
         Err(error) => Err(stop_of_seam(error)),
     }
 }
 
 /// The next name gets a string, repeated.
-pub(crate) fn rep(alloc: Global, held: &mut Evaluation, a: u32, times: u64) -> Result<(), Stop>
-    requires held { (reads : List FileRead) × IsHeld held.old.table reads held.old }
-    ensures { (places : ℕ) (reads : List FileRead) (state : State)
-        → Holds places reads held.old state
-        → Follows places reads held.old held.new result
-        (define_rep places state (value_of state a) times) }
+pub(crate) fn rep<T: Synthetics>(
+    alloc: Global,
+    table: &T,
+    pass: &mut T::Pass,
+    held: &mut Evaluation,
+    a: u32,
+    times: u64,
+) -> Result<(), Stop>
+    requires table { T.is_of table.now pass.old }
+    requires held { (reads : List FileRead) × IsHeld (T.seen pass.old).known reads held.old }
+    ensures table { T.is_of table.now pass.new }
+    ensures keeps { Keeps (T.seen pass.old) (T.seen pass.new) }
+    ensures counts { SameCounts (T.seen pass.old) (T.seen pass.new) }
+    ensures joined { (reads : List FileRead) (state : State)
+        → Holds (T.seen pass.old).known reads held.old state
+        → Follows (T.size table.now) (T.seen pass.old) (T.seen pass.new) reads state.used held.old held.new result
+        (define_rep (T.size table.now) state (value_of state a) times) }
 {
     let nothing = NString::empty(alloc);
     let string = string_of_name(&held.strings, a, &nothing);
@@ -80,7 +104,7 @@ pub(crate) fn rep(alloc: Global, held: &mut Evaluation, a: u32, times: u64) -> R
     if let Some(cause) = join_refusal(held.spent, count) {
         return Err(Stop::Refused(cause));
     }
-    match repeat(alloc, &held.table, &mut held.pass, string, times) {
+    match repeat(alloc, table, pass, string, times) {
         Ok(string) => define(held, count, string),
         Err(error) => Err(stop_of_seam(error)),
     }

@@ -19,6 +19,7 @@ mod output;
 mod printing;
 mod put;
 mod spelling;
+mod stepping;
 mod stop;
 #[cfg(test)]
 mod tests;

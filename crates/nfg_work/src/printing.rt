@@ -3,8 +3,8 @@ ghost use Rattle.std.specs.Prelude.{◌≡◌, ◌≤◌, ◌<◌, ◌*◌, ◌+
 ghost use Rattle.std.specs.List.{flat_map};
 ghost use Rattle.std.specs.Fmt.{decimal};
 ghost use Rattle.nfg_syn.specs.Known.{Texts};
-ghost use Rattle.nfg_syn.specs.OwnTexts.{IsOwnPass, known_of};
 ghost use Rattle.nfg_syn.specs.Represents.{Represents};
+ghost use Rattle.nfg_ops.specs.Reads.{HasAsked};
 ghost use Rattle.nfg_work.specs.Printing.{shown, shape as shape_of, piece_text, place_text, truth_text, order_text, line_of};
 ghost use Rattle.nfg_work.specs.Evaluation.{output_limit};
 ghost use Rattle.nfg_work.specs.Holding.{Prints, AreSpelled, IsRefusedAt};
@@ -15,7 +15,7 @@ use crate::hexadecimal::{MOST_BYTES, append_number, put_number};
 use crate::spelling::{CLUSTER_LIMIT, spell};
 use crate::stop::Stop;
 use nfg_strand::{NString, Piece};
-use nfg_syn::{OwnPass, OwnTable};
+use nfg_syn::Synthetics;
 use nfg_text::ByteList;
 use std::alloc::{AllocError, Global};
 use std::cmp::Ordering;
@@ -153,27 +153,27 @@ fn fill_run(numbers: &[i32], scratch: &mut [u8]) -> (usize, usize)
 
 /// Adds the clusters of the code points that stand at the front of the numbers, or that of the first
 /// number where it is none: how many numbers these are.
-fn show_run(
-    table: &OwnTable,
-    pass: &mut OwnPass,
+fn show_run<T: Synthetics>(
+    table: &T,
+    pass: &mut T::Pass,
     numbers: &[i32],
     buffer: &mut [u32],
     scratch: &mut [u8],
     output: &mut ByteList,
 ) -> Result<usize, AllocError>
-    requires table { IsOwnPass table.now pass.old }
+    requires table { T.is_of table.now pass.old }
     requires known { (clusters : List (List ℕ))
-        × Represents (known_of pass.old.texts) numbers.now clusters }
+        × Represents (T.seen pass.old).known numbers.now clusters }
     requires some { 0 < length numbers.now }
     requires room { length buffer.old ≡ 1024 }
     requires scratch { 9 * length numbers.now ≤ length scratch.old }
-    ensures table { IsOwnPass table.now pass.new }
-    ensures texts { pass.new.texts ≡ pass.old.texts }
+    ensures table { T.is_of table.now pass.new }
+    ensures asked { HasAsked (T.seen pass.old) (T.seen pass.new) }
     ensures room { length buffer.new ≡ 1024 }
     ensures some { IfOk result (λ count. 0 < count) }
     ensures within { IfOk result (λ count. count ≤ length numbers.now) }
     ensures shown { (clusters : List (List ℕ))
-        → Represents (known_of pass.old.texts) numbers.now clusters
+        → Represents (T.seen pass.old).known numbers.now clusters
         → IfOk result (λ count. output.new
         ≡ output.old ++ flat_map shown_with_space (take count clusters)) }
 {
@@ -188,24 +188,24 @@ fn show_run(
 }
 
 /// Adds the clusters that the numbers stand for, a space after each, by way of a scratch of bytes.
-fn show_part(
-    table: &OwnTable,
-    pass: &mut OwnPass,
+fn show_part<T: Synthetics>(
+    table: &T,
+    pass: &mut T::Pass,
     numbers: &[i32],
     buffer: &mut [u32],
     scratch: &mut [u8],
     output: &mut ByteList,
 ) -> Result<(), AllocError>
-    requires table { IsOwnPass table.now pass.old }
+    requires table { T.is_of table.now pass.old }
     requires known { (clusters : List (List ℕ))
-        × Represents (known_of pass.old.texts) numbers.now clusters }
+        × Represents (T.seen pass.old).known numbers.now clusters }
     requires room { length buffer.old ≡ 1024 }
     requires scratch { 9 * length numbers.now ≤ length scratch.old }
-    ensures table { IsOwnPass table.now pass.new }
-    ensures texts { pass.new.texts ≡ pass.old.texts }
+    ensures table { T.is_of table.now pass.new }
+    ensures asked { HasAsked (T.seen pass.old) (T.seen pass.new) }
     ensures room { length buffer.new ≡ 1024 }
     ensures shown { (clusters : List (List ℕ))
-        → Represents (known_of pass.old.texts) numbers.now clusters
+        → Represents (T.seen pass.old).known numbers.now clusters
         → OnOk result (output.new ≡ output.old ++ flat_map shown_with_space clusters) }
 {
     let mut at = 0;
@@ -240,18 +240,18 @@ fn end_line(output: &mut ByteList, had: usize) -> Result<(), Stop>
 }
 
 /// Prints the clusters of the string.
-pub(crate) fn show(
-    table: &OwnTable,
-    pass: &mut OwnPass,
+pub(crate) fn show<T: Synthetics>(
+    table: &T,
+    pass: &mut T::Pass,
     string: &NString,
     output: &mut ByteList,
 ) -> Result<(), Stop>
-    requires table { IsOwnPass table.now pass.old }
-    requires known { AreSpelled pass.old.texts string.now }
-    ensures table { IsOwnPass table.now pass.new }
-    ensures texts { pass.new.texts ≡ pass.old.texts }
+    requires table { T.is_of table.now pass.old }
+    requires known { AreSpelled (T.seen pass.old).known string.now }
+    ensures table { T.is_of table.now pass.new }
+    ensures asked { HasAsked (T.seen pass.old) (T.seen pass.new) }
     ensures shown { (clusters : List (List ℕ))
-        → Represents (known_of pass.old.texts) string.now.graphemes clusters
+        → Represents (T.seen pass.old).known string.now.graphemes clusters
         → Prints output.old output.new result (line_of (shown clusters)) }
 {
     let had = output.len();

@@ -2,8 +2,8 @@
 ghost use Rattle.std.specs.Prelude.{◌≡◌, ◌<◌, ◌≤◌, ◌++◌, ℕ, List, None, IfSome, OnOk, false, length, slice_range, take};
 ghost use Rattle.nfg_text.specs.Text.{IsText, text_of};
 ghost use Rattle.nfg_decode.specs.Encoding.{encode, has_code, text_start};
-ghost use Rattle.nfg_syn.specs.OwnTexts.{IsOwnPass, known_of};
 ghost use Rattle.nfg_syn.specs.Represents.{Represents};
+ghost use Rattle.nfg_ops.specs.Reads.{HasAsked};
 ghost use Rattle.nfg_work.specs.Evaluation.{first_lacking, is_lacking};
 ghost use Rattle.nfg_work.specs.Holding.{Puts, Writes, IsRefusalOf, AreSpelled, without_mark as unmarked};
 
@@ -15,7 +15,7 @@ use nfg_decode::Encoding;
 use nfg_encode::{EncodeError, encode_into};
 use nfg_ops::append_codes;
 use nfg_strand::NString;
-use nfg_syn::{OwnPass, OwnTable};
+use nfg_syn::Synthetics;
 use nfg_text::{ByteList, CodeList};
 use std::alloc::{AllocError, Global};
 
@@ -58,23 +58,23 @@ fn lacks(e: Encoding, cluster: &[u32]) -> bool
 }
 
 /// The first of the clusters that the numbers stand for of which the encoding lacks a code point.
-fn lacking(
-    table: &OwnTable,
-    pass: &mut OwnPass,
+fn lacking<T: Synthetics>(
+    table: &T,
+    pass: &mut T::Pass,
     numbers: &[i32],
     e: Encoding,
     buffer: &mut [u32],
 ) -> Option<usize>
-    requires table { IsOwnPass table.now pass.old }
+    requires table { T.is_of table.now pass.old }
     requires known { (clusters : List (List ℕ))
-        × Represents (known_of pass.old.texts) numbers.now clusters }
+        × Represents (T.seen pass.old).known numbers.now clusters }
     requires room { length buffer.old ≡ 1024 }
-    ensures table { IsOwnPass table.now pass.new }
-    ensures texts { pass.new.texts ≡ pass.old.texts }
+    ensures table { T.is_of table.now pass.new }
+    ensures asked { HasAsked (T.seen pass.old) (T.seen pass.new) }
     ensures room { length buffer.new ≡ 1024 }
     ensures inside { IfSome result (λ k. k < length numbers.now) }
     ensures lacking { (clusters : List (List ℕ))
-        → Represents (known_of pass.old.texts) numbers.now clusters
+        → Represents (T.seen pass.old).known numbers.now clusters
         → result ≡ first_lacking e clusters }
 {
     'looking: for i in 0..numbers.len() {
@@ -87,14 +87,20 @@ fn lacking(
 }
 
 /// Why the string is not put, where the encoding lacks no code point of the graphemes before `start`.
-fn refusal(table: &OwnTable, pass: &mut OwnPass, string: &NString, e: Encoding, start: u64) -> Stop
-    requires table { IsOwnPass table.now pass.old }
-    requires known { AreSpelled pass.old.texts string.now }
+fn refusal<T: Synthetics>(
+    table: &T,
+    pass: &mut T::Pass,
+    string: &NString,
+    e: Encoding,
+    start: u64,
+) -> Stop
+    requires table { T.is_of table.now pass.old }
+    requires known { AreSpelled (T.seen pass.old).known string.now }
     requires inside { start ≤ length string.now.graphemes }
-    ensures table { IsOwnPass table.now pass.new }
-    ensures texts { pass.new.texts ≡ pass.old.texts }
+    ensures table { T.is_of table.now pass.new }
+    ensures asked { HasAsked (T.seen pass.old) (T.seen pass.new) }
     ensures refusal { (clusters : List (List ℕ))
-        → Represents (known_of pass.old.texts) string.now.graphemes clusters
+        → Represents (T.seen pass.old).known string.now.graphemes clusters
         → first_lacking e (take start clusters) ≡ None
         → IsRefusalOf (first_lacking e clusters) result }
 {
@@ -154,10 +160,10 @@ fn write(
 }
 
 /// Writes the bytes of the graphemes `start..end`, by way of a list of their code points.
-fn write_part(
+fn write_part<T: Synthetics>(
     alloc: Global,
-    table: &OwnTable,
-    pass: &mut OwnPass,
+    table: &T,
+    pass: &mut T::Pass,
     string: &NString,
     start: u64,
     end: u64,
@@ -165,14 +171,14 @@ fn write_part(
     codes: &mut CodeList,
     output: &mut ByteList,
 ) -> Result<bool, AllocError>
-    requires table { IsOwnPass table.now pass.old }
-    requires known { AreSpelled pass.old.texts string.now }
+    requires table { T.is_of table.now pass.old }
+    requires known { AreSpelled (T.seen pass.old).known string.now }
     requires ordered { start ≤ end }
     requires inside { end ≤ length string.now.graphemes }
-    ensures table { IsOwnPass table.now pass.new }
-    ensures texts { pass.new.texts ≡ pass.old.texts }
+    ensures table { T.is_of table.now pass.new }
+    ensures asked { HasAsked (T.seen pass.old) (T.seen pass.new) }
     ensures written { (clusters : List (List ℕ))
-        → Represents (known_of pass.old.texts) string.now.graphemes clusters
+        → Represents (T.seen pass.old).known string.now.graphemes clusters
         → Writes e (text_of (slice_range clusters start end)) output.old output.new result }
 {
     codes.truncate(0);
@@ -182,20 +188,20 @@ fn write_part(
 
 /// Writes the bytes of the string in the encoding. It holds the code points of one part at a time, and
 /// stops with the part that is refused.
-pub(crate) fn put(
+pub(crate) fn put<T: Synthetics>(
     alloc: Global,
-    table: &OwnTable,
-    pass: &mut OwnPass,
+    table: &T,
+    pass: &mut T::Pass,
     string: &NString,
     e: Encoding,
     output: &mut ByteList,
 ) -> Result<(), Stop>
-    requires table { IsOwnPass table.now pass.old }
-    requires known { AreSpelled pass.old.texts string.now }
-    ensures table { IsOwnPass table.now pass.new }
-    ensures texts { pass.new.texts ≡ pass.old.texts }
+    requires table { T.is_of table.now pass.old }
+    requires known { AreSpelled (T.seen pass.old).known string.now }
+    ensures table { T.is_of table.now pass.new }
+    ensures asked { HasAsked (T.seen pass.old) (T.seen pass.new) }
     ensures put { (clusters : List (List ℕ))
-        → Represents (known_of pass.old.texts) string.now.graphemes clusters
+        → Represents (T.seen pass.old).known string.now.graphemes clusters
         → Puts (first_lacking e clusters) output.old output.new
         result (encode e (text_of clusters)) }
 {

@@ -10,6 +10,10 @@ use std::alloc::AllocError;
 pub(crate) enum Stop {
     /// Its line is refused.
     Refused(Cause),
+    /// Every place of the table holds another text.
+    RowFull,
+    /// The table has no room left for code points.
+    NoPortion,
     /// Want of memory.
     OutOfMemory,
 }

@@ -1,20 +1,19 @@
-use Rattle.std.proofs.Common.{ap, refl, subst, ◌∙◌, slice_index_or, ℕ}
+use Rattle.std.proofs.Common.{ap, subst, ◌∙◌, slice_index_or, ℕ}
 use Rattle.std.specs.Fmt.{decimal}
-use Rattle.nfg_syn.specs.OwnTexts.{known_of}
 use Rattle.nfg_syn.specs.RepresentsLaws.{Represents-length}
 use Rattle.nfg_work.specs.Printing.{line_of}
 use Rattle.nfg_work.specs.Evaluation.{value_of}
 use Rattle.nfg_work.specs.Holding.{Prints}
 use Rattle.nfg_work.proofs.Parts.{named}
-use Rattle.nfg_work.proofs.Answered.{printed_follows}
+use Rattle.nfg_work.proofs.Answered.{printed_does}
 use Rattle.nfg_work.proofs.answering.print_len.Goals as goal
 
 pub returns : goal.returns
-returns c = λ places reads state h.
+returns c = λ known reads state h.
     let nothing = c.empty-nothing.result in
     let string = c.string_of_name-string.result.now in
-    let is = named places reads c.args.held.now state c.args.a nothing string h c.empty-nothing.ensures.graphemes c.empty-nothing.ensures.pieces
+    let is = named known reads c.args.held.now state c.args.a nothing string h c.empty-nothing.ensures.graphemes c.empty-nothing.ensures.pieces
     (c.string_of_name-string.ensures ∙ ap (λ v. slice_index_or v c.args.a nothing) c.deref.ensures.value) in
-    let long = Represents-length (known_of c.args.held.now.pass.texts) string.graphemes (value_of state c.args.a).clusters is.represents in
+    let long = Represents-length known string.graphemes (value_of state c.args.a).clusters is.represents in
     let P : ℕ → Type 0 = λ n. Prints c.args.held.now.output c.len.new.output c.len.result (line_of (decimal n)) in
-    printed_follows places reads c.args.held.now c.args.held.now.pass c.len.new.output c.len.result state _ h h.table refl (subst P long c.len.ensures)
+    printed_does known reads c.args.held.now c.len.new.output c.len.result state _ h (subst P long c.len.ensures)

@@ -1,22 +1,21 @@
 use Rattle.std.proofs.Common.{ap, ◌∙◌, slice_index_or}
 use Rattle.nfg_work.specs.Evaluation.{value_of}
 use Rattle.nfg_work.proofs.Parts.{named}
-use Rattle.nfg_work.proofs.Answered.{put_follows, own_in}
+use Rattle.nfg_work.proofs.Answered.{put_does}
 use Rattle.nfg_work.proofs.answering.print_put.Goals as goal
 
 pub put-requires-clause-known : goal.put-requires-clause-known
-put-requires-clause-known c =
+put-requires-clause-known g c κs within =
     let held = c.requires.held in
     let nothing = c.empty-nothing.result in
-    let is = named c.args.held.now.table held.0 c.args.held.now held.1.0 c.args.a nothing c.string_of_name-string.result.now held.1.1 c.empty-nothing.ensures.graphemes c.empty-nothing.ensures.pieces
+    let is = named (g.T.Synthetics.seen c.args.pass.now).known held.0 c.args.held.now held.1.0 c.args.a nothing c.string_of_name-string.result.now held.1.1 c.empty-nothing.ensures.graphemes c.empty-nothing.ensures.pieces
     (c.string_of_name-string.ensures ∙ ap (λ v. slice_index_or v c.args.a nothing) c.deref.ensures.value) in
     ((value_of held.1.0 c.args.a).clusters, is.represents)
 
-pub returns : goal.returns
-returns c = λ places reads state h.
+pub returns-clause-printed : goal.returns-clause-printed
+returns-clause-printed g c = λ reads state h.
     let nothing = c.empty-nothing.result in
-    let is = named places reads c.args.held.now state c.args.a nothing c.string_of_name-string.result.now h c.empty-nothing.ensures.graphemes c.empty-nothing.ensures.pieces
+    let is = named (g.T.Synthetics.seen c.args.pass.now).known reads c.args.held.now state c.args.a nothing c.string_of_name-string.result.now h c.empty-nothing.ensures.graphemes c.empty-nothing.ensures.pieces
     (c.string_of_name-string.ensures ∙ ap (λ v. slice_index_or v c.args.a nothing) c.deref.ensures.value) in
-    put_follows places reads c.args.held.now c.put.new.pass c.put.new.output c.put.result state _ _ h
-    (own_in places reads c.args.held.now state c.put.new.pass h c.put.ensures.table) c.put.ensures.texts
+    put_does (g.T.Synthetics.seen c.args.pass.now).known reads c.args.held.now c.put.new.output c.put.result state _ _ h
     (c.put.ensures.put (value_of state c.args.a).clusters is.represents)

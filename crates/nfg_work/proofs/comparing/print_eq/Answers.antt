@@ -1,32 +1,32 @@
-use Rattle.std.proofs.Common.{ap, refl, subst, ◌∙◌, slice_index_or}
+use Rattle.std.proofs.Common.{ap, subst, ◌∙◌, slice_index_or}
 use Rattle.nfg_work.specs.Evaluation.{value_of}
 use Rattle.nfg_work.specs.Holding.{Prints}
 use Rattle.nfg_work.specs.Printing.{truth_text, line_of}
-use Rattle.nfg_work.proofs.Answered.{printed_follows, same_truth}
+use Rattle.nfg_work.proofs.Answered.{printed_does, same_truth}
 use Rattle.nfg_work.proofs.Parts.{named, named_graphemes}
 use Rattle.nfg_work.proofs.comparing.print_eq.Goals as goal
 
 pub equal-holds-requires-clause-left : goal.equal-holds-requires-clause-left
-equal-holds-requires-clause-left c κs =
+equal-holds-requires-clause-left g c κs within =
     let held = c.requires.held in
     let nothing = c.empty-nothing.result in
-    named_graphemes c.args.held.now.table held.0 c.args.held.now c.args.a nothing c.string_of_name-left.result.now held.1 c.empty-nothing.ensures.graphemes c.empty-nothing.ensures.pieces
+    named_graphemes (g.T.Synthetics.seen c.args.pass.now).known held.0 c.args.held.now c.args.a nothing c.string_of_name-left.result.now held.1 c.empty-nothing.ensures.graphemes c.empty-nothing.ensures.pieces
     (c.string_of_name-left.ensures ∙ ap (λ v. slice_index_or v c.args.a nothing) c.deref.ensures.value)
 
 pub equal-holds-requires-clause-right : goal.equal-holds-requires-clause-right
-equal-holds-requires-clause-right c κs =
+equal-holds-requires-clause-right g c κs within =
     let held = c.requires.held in
     let nothing = c.empty-nothing.result in
-    named_graphemes c.args.held.now.table held.0 c.args.held.now c.args.b nothing c.string_of_name-right.result.now held.1 c.empty-nothing.ensures.graphemes c.empty-nothing.ensures.pieces
+    named_graphemes (g.T.Synthetics.seen c.args.pass.now).known held.0 c.args.held.now c.args.b nothing c.string_of_name-right.result.now held.1 c.empty-nothing.ensures.graphemes c.empty-nothing.ensures.pieces
     (c.string_of_name-right.ensures ∙ ap (λ v. slice_index_or v c.args.b nothing) c.deref-2.ensures.value)
 
 pub returns : goal.returns
-returns c = λ places reads state h.
+returns g c = λ reads state h.
     let nothing = c.empty-nothing.result in
-    let left = named places reads c.args.held.now state c.args.a nothing c.string_of_name-left.result.now h c.empty-nothing.ensures.graphemes c.empty-nothing.ensures.pieces
+    let left = named (g.T.Synthetics.seen c.args.pass.now).known reads c.args.held.now state c.args.a nothing c.string_of_name-left.result.now h c.empty-nothing.ensures.graphemes c.empty-nothing.ensures.pieces
     (c.string_of_name-left.ensures ∙ ap (λ v. slice_index_or v c.args.a nothing) c.deref.ensures.value) in
-    let right = named places reads c.args.held.now state c.args.b nothing c.string_of_name-right.result.now h c.empty-nothing.ensures.graphemes c.empty-nothing.ensures.pieces
+    let right = named (g.T.Synthetics.seen c.args.pass.now).known reads c.args.held.now state c.args.b nothing c.string_of_name-right.result.now h c.empty-nothing.ensures.graphemes c.empty-nothing.ensures.pieces
     (c.string_of_name-right.ensures ∙ ap (λ v. slice_index_or v c.args.b nothing) c.deref-2.ensures.value) in
-    printed_follows places reads c.args.held.now c.args.held.now.pass c.truth.new.output c.truth.result state _ h h.table refl
+    printed_does (g.T.Synthetics.seen c.args.pass.now).known reads c.args.held.now c.truth.new.output c.truth.result state _ h
     (subst (λ holds. Prints c.args.held.now.output c.truth.new.output c.truth.result (line_of (truth_text holds)))
     (same_truth c.equal-holds.result _ _ (c.equal-holds.ensures.equivalent (value_of state c.args.a).clusters (value_of state c.args.b).clusters left.represents right.represents)) c.truth.ensures)

@@ -1,5 +1,4 @@
 use Rattle.std.proofs.Common.{ap, refl, sym, ◌+◌, ◌∙◌, slice_index_or, Ok, Err}
-use Rattle.nfg_syn.specs.OwnTexts.{seen_of}
 use Rattle.nfg_work.specs.declared.stop.Stop.TheVariants.{Refused}
 use Rattle.nfg_work.specs.Evaluation.{value_of}
 use Rattle.nfg_work.specs.Values.{joined}
@@ -8,61 +7,70 @@ use Rattle.nfg_work.proofs.Parts.{named, named_graphemes}
 use Rattle.nfg_work.proofs.joining.cat.Goals as goal
 
 pub concat-requires-clause-left : goal.concat-requires-clause-left
-concat-requires-clause-left c κs =
+concat-requires-clause-left g c κs within =
     let held = c.requires.held in
     let nothing = c.empty-nothing.result in
-    named_graphemes c.args.held.now.table held.0 c.args.held.now c.args.a nothing c.string_of_name-left.result.now held.1 c.empty-nothing.ensures.graphemes c.empty-nothing.ensures.pieces
+    named_graphemes (g.T.Synthetics.seen c.args.pass.now).known held.0 c.args.held.now c.args.a nothing c.string_of_name-left.result.now held.1 c.empty-nothing.ensures.graphemes c.empty-nothing.ensures.pieces
     (c.string_of_name-left.ensures ∙ ap (λ v. slice_index_or v c.args.a nothing) c.deref.ensures.value)
 
 pub concat-requires-clause-right : goal.concat-requires-clause-right
-concat-requires-clause-right c κs =
+concat-requires-clause-right g c κs within =
     let held = c.requires.held in
     let nothing = c.empty-nothing.result in
-    named_graphemes c.args.held.now.table held.0 c.args.held.now c.args.b nothing c.string_of_name-right.result.now held.1 c.empty-nothing.ensures.graphemes c.empty-nothing.ensures.pieces
+    named_graphemes (g.T.Synthetics.seen c.args.pass.now).known held.0 c.args.held.now c.args.b nothing c.string_of_name-right.result.now held.1 c.empty-nothing.ensures.graphemes c.empty-nothing.ensures.pieces
     (c.string_of_name-right.ensures ∙ ap (λ v. slice_index_or v c.args.b nothing) c.deref-2.ensures.value)
 
-pub returns-in-Some : goal.returns-in-Some
-returns-in-Some c = λ places reads state h.
+pub returns-in-Some-clause-joined : goal.returns-in-Some-clause-joined
+returns-in-Some-clause-joined g c = λ reads state h.
+    let pass = g.T.Synthetics.seen c.args.pass.now in
+    let after = pass in
+    let places = g.T.Synthetics.size c.args.table.now in
     let nothing = c.empty-nothing.result in
-    let left = named places reads c.args.held.now state c.args.a nothing c.string_of_name-left.result.now h c.empty-nothing.ensures.graphemes c.empty-nothing.ensures.pieces
+    let left = named pass.known reads c.args.held.now state c.args.a nothing c.string_of_name-left.result.now h c.empty-nothing.ensures.graphemes c.empty-nothing.ensures.pieces
     (c.string_of_name-left.ensures ∙ ap (λ v. slice_index_or v c.args.a nothing) c.deref.ensures.value) in
-    let right = named places reads c.args.held.now state c.args.b nothing c.string_of_name-right.result.now h c.empty-nothing.ensures.graphemes c.empty-nothing.ensures.pieces
+    let right = named pass.known reads c.args.held.now state c.args.b nothing c.string_of_name-right.result.now h c.empty-nothing.ensures.graphemes c.empty-nothing.ensures.pieces
     (c.string_of_name-right.ensures ∙ ap (λ v. slice_index_or v c.args.b nothing) c.deref-2.ensures.value) in
     let value = joined (value_of state c.args.a) (value_of state c.args.b) in
-    cat_step c.args.held.now.pass.texts c.string_of_name-left.result.now c.string_of_name-right.result.now (value_of state c.args.a) (value_of state c.args.b) c.len.result c.len-2.result
-    places reads c.args.held.now c.args.held.now state (Err (Refused c.in-Some.cause)) left right c.len.ensures.len c.len-2.ensures.len
-    (limit_follows places (c.len.result + c.len-2.result) reads c.args.held.now c.args.held.now value state c.in-Some.cause h (sym c.in-Some.ensures) refl)
+    cat_step pass.known c.string_of_name-left.result.now c.string_of_name-right.result.now (value_of state c.args.a) (value_of state c.args.b) c.len.result c.len-2.result
+    places pass after reads c.args.held.now c.args.held.now state (Err (Refused c.in-Some.cause)) left right c.len.ensures.len c.len-2.ensures.len
+    (limit_follows places (c.len.result + c.len-2.result) pass after reads c.args.held.now c.args.held.now value state c.in-Some.cause h (sym c.in-Some.ensures) refl)
 
-pub returns-in-Ok : goal.returns-in-Ok
-returns-in-Ok c = λ places reads state h.
+pub returns-in-Ok-clause-joined : goal.returns-in-Ok-clause-joined
+returns-in-Ok-clause-joined g c = λ reads state h.
+    let pass = g.T.Synthetics.seen c.args.pass.now in
+    let after = g.T.Synthetics.seen c.concat.new.pass in
+    let places = g.T.Synthetics.size c.args.table.now in
     let nothing = c.empty-nothing.result in
-    let left = named places reads c.args.held.now state c.args.a nothing c.string_of_name-left.result.now h c.empty-nothing.ensures.graphemes c.empty-nothing.ensures.pieces
+    let left = named pass.known reads c.args.held.now state c.args.a nothing c.string_of_name-left.result.now h c.empty-nothing.ensures.graphemes c.empty-nothing.ensures.pieces
     (c.string_of_name-left.ensures ∙ ap (λ v. slice_index_or v c.args.a nothing) c.deref.ensures.value) in
-    let right = named places reads c.args.held.now state c.args.b nothing c.string_of_name-right.result.now h c.empty-nothing.ensures.graphemes c.empty-nothing.ensures.pieces
+    let right = named pass.known reads c.args.held.now state c.args.b nothing c.string_of_name-right.result.now h c.empty-nothing.ensures.graphemes c.empty-nothing.ensures.pieces
     (c.string_of_name-right.ensures ∙ ap (λ v. slice_index_or v c.args.b nothing) c.deref-2.ensures.value) in
     let a = value_of state c.args.a in
     let b = value_of state c.args.b in
-    let made = cat_joined c.args.held.now.pass.texts c.string_of_name-left.result.now c.string_of_name-right.result.now a b c.len.result c.len-2.result
-    (seen_of c.args.held.now.pass) (seen_of c.concat.new.pass) (Ok c.in-Ok.string) left right c.len.ensures.len c.len-2.ensures.len
+    let made = cat_joined pass.known c.string_of_name-left.result.now c.string_of_name-right.result.now a b c.len.result c.len-2.result
+    pass after (Ok c.in-Ok.string) left right c.len.ensures.len c.len-2.ensures.len
     (c.in-Ok.ensures.joined a.clusters b.clusters left.represents right.represents) in
-    cat_step c.args.held.now.pass.texts c.string_of_name-left.result.now c.string_of_name-right.result.now a b c.len.result c.len-2.result
-    places reads c.args.held.now c.define.new.held state c.define.result left right c.len.ensures.len c.len-2.ensures.len
-    (joined_follows places (c.len.result + c.len-2.result) reads c.args.held.now c.define.new.held c.concat.new.pass c.in-Ok.string c.define.result (joined a b) state h
-    (sym c.in_default.ensures) c.in-Ok.ensures.table c.in-Ok.ensures.keeps made c.define.ensures.defined c.define.ensures.refused)
+    cat_step pass.known c.string_of_name-left.result.now c.string_of_name-right.result.now a b c.len.result c.len-2.result
+    places pass after reads c.args.held.now c.define.new.held state c.define.result left right c.len.ensures.len c.len-2.ensures.len
+    (joined_follows places (c.len.result + c.len-2.result) pass after reads c.args.held.now c.define.new.held c.in-Ok.string c.define.result (joined a b) state h
+    (sym c.in_default.ensures) (g.met.T.Synthetics.knows c.args.table.now c.concat.new.pass c.in-Ok.ensures.table) c.in-Ok.ensures.keeps made c.define.ensures.defined c.define.ensures.refused)
 
-pub returns : goal.returns
-returns c = λ places reads state h.
+pub returns-clause-joined : goal.returns-clause-joined
+returns-clause-joined g c = λ reads state h.
+    let pass = g.T.Synthetics.seen c.args.pass.now in
+    let after = g.T.Synthetics.seen c.concat.new.pass in
+    let places = g.T.Synthetics.size c.args.table.now in
     let nothing = c.empty-nothing.result in
-    let left = named places reads c.args.held.now state c.args.a nothing c.string_of_name-left.result.now h c.empty-nothing.ensures.graphemes c.empty-nothing.ensures.pieces
+    let left = named pass.known reads c.args.held.now state c.args.a nothing c.string_of_name-left.result.now h c.empty-nothing.ensures.graphemes c.empty-nothing.ensures.pieces
     (c.string_of_name-left.ensures ∙ ap (λ v. slice_index_or v c.args.a nothing) c.deref.ensures.value) in
-    let right = named places reads c.args.held.now state c.args.b nothing c.string_of_name-right.result.now h c.empty-nothing.ensures.graphemes c.empty-nothing.ensures.pieces
+    let right = named pass.known reads c.args.held.now state c.args.b nothing c.string_of_name-right.result.now h c.empty-nothing.ensures.graphemes c.empty-nothing.ensures.pieces
     (c.string_of_name-right.ensures ∙ ap (λ v. slice_index_or v c.args.b nothing) c.deref-2.ensures.value) in
     let a = value_of state c.args.a in
     let b = value_of state c.args.b in
-    let made = cat_joined c.args.held.now.pass.texts c.string_of_name-left.result.now c.string_of_name-right.result.now a b c.len.result c.len-2.result
-    (seen_of c.args.held.now.pass) (seen_of c.concat.new.pass) (Err c.in-Err.error) left right c.len.ensures.len c.len-2.ensures.len
+    let made = cat_joined pass.known c.string_of_name-left.result.now c.string_of_name-right.result.now a b c.len.result c.len-2.result
+    pass after (Err c.in-Err.error) left right c.len.ensures.len c.len-2.ensures.len
     (c.in-Err.ensures.joined a.clusters b.clusters left.represents right.represents) in
-    cat_step c.args.held.now.pass.texts c.string_of_name-left.result.now c.string_of_name-right.result.now a b c.len.result c.len-2.result
-    places reads c.args.held.now (record c.args.held.now { pass = c.concat.new.pass }) state (Err c.stop_of_seam.result) left right c.len.ensures.len c.len-2.ensures.len
-    (joined_refused places (c.len.result + c.len-2.result) reads c.args.held.now (record c.args.held.now { pass = c.concat.new.pass }) c.concat.new.pass c.in-Err.error c.stop_of_seam.result (joined a b) state h
-    (sym c.in_default.ensures) c.in-Err.ensures.table made c.stop_of_seam.ensures refl)
+    cat_step pass.known c.string_of_name-left.result.now c.string_of_name-right.result.now a b c.len.result c.len-2.result
+    places pass after reads c.args.held.now c.args.held.now state (Err c.stop_of_seam.result) left right c.len.ensures.len c.len-2.ensures.len
+    (joined_refused places (c.len.result + c.len-2.result) pass after reads c.args.held.now c.args.held.now c.in-Err.error c.stop_of_seam.result (joined a b) state h
+    (sym c.in_default.ensures) made c.stop_of_seam.ensures refl)
