@@ -1,8 +1,9 @@
 -- Worked rows of the evaluation.
-use Rattle.std.proofs.Common.{◌≡◌, ℕ, true, false, List, [], ◌∷◌, ◌++◌, length, nat_lt, codes, Some, Ok, Err, refl}
+use Rattle.std.proofs.Common.{◌≡◌, ℕ, true, false, List, [], ◌∷◌, ◌++◌, length, nat_lt, codes, Some, None, Ok, Err, refl}
 use Rattle.std.specs.Fmt.{digits}
 use Rattle.nfg_decode.specs.declared.encoding.Encoding.TheVariants.{Utf8, Latin1}
-use Rattle.nfg_script.specs.declared.command.Command.TheVariants.{Load}
+use Rattle.nfg_script.specs.declared.command.Command.TheVariants.{Load, Text, Cat, Show}
+use Rattle.nfg_script.specs.declared.command.Command.{Command}
 use Rattle.nfg_script.specs.Script.{NumberedCommand}
 use Rattle.nfg_work.specs.declared.output.Cause.TheVariants.{CannotRead, OutOfRange, AllTooLong, ClusterTooLong, TableFull, OutputTooLong}
 use Rattle.nfg_work.specs.declared.output.FileRead.TheVariants.{Bytes, Failed}
@@ -11,6 +12,8 @@ use Rattle.nfg_work.specs.Values.{no_value}
 use Rattle.nfg_work.specs.Printing.{shown, shape}
 use Rattle.nfg_work.specs.Evaluation.{output_limit, takes_place, first_lacking, first_state, define, define_part, with_places, with_clusters, print, evaluate}
 use Rattle.nfg_work.specs.Laws.{has_failed, HasEntries}
+use Rattle.nfg_work.specs.Levels.{levels}
+use Rattle.nfg_work.specs.Reach.{cat_value, sub_value, load_value, values_of, files_behind}
 
 -- CR LF takes no place
 line_end_takes_none : takes_place (0xD ∷ 0xA ∷ []) ≡ false
@@ -99,3 +102,42 @@ no_failed_entry = refl
 -- behind a failed entry none is wanted
 entries_to_the_failed : HasEntries (codes "f" ∷ codes "g" ∷ []) (Failed ∷ [])
 entries_to_the_failed = tt
+
+-- text a, text b, text c, cat d a b, show d, cat e d c, show e
+three_texts : List NumberedCommand
+three_texts =
+    command (Text 0) ∷ command (Text 1) ∷ command (Text 2) ∷ command (Cat 3 0 1) ∷ command (Show 3) ∷ command (Cat 4 3 2)
+    ∷ command (Show 4) ∷ []
+  where
+    command : Command → NumberedCommand
+    command of = record { line = 1; command = of; path = []; codes = [] }
+
+three_levels : levels three_texts ≡ 0 ∷ 0 ∷ 0 ∷ 1 ∷ 2 ∷ 2 ∷ 3 ∷ []
+unfolding levels three_texts
+three_levels = refl
+
+-- what uses a name without a value has none
+joined_to_nothing : cat_value (Some no_value) None ≡ None
+joined_to_nothing = refl
+
+-- a part may start at the end, and no later
+part_reached : sub_value (Some no_value) 0 5 ≡ Some no_value
+part_reached = refl
+
+part_not_reached : sub_value (Some no_value) 1 0 ≡ None
+part_not_reached = refl
+
+-- a file that can't be read gives none, and neither does one that is not there
+unread_value : load_value Utf8 (Failed ∷ []) ≡ None
+unread_value = refl
+
+absent_value : load_value Utf8 [] ≡ None
+absent_value = refl
+
+unread_name : values_of load_alone (Failed ∷ []) ≡ None ∷ []
+unfolding values_of load_alone
+unread_name = refl
+
+-- each load takes one file
+next_file : files_behind (Load 0 Utf8) (Failed ∷ Bytes [] ∷ []) ≡ Bytes [] ∷ []
+next_file = refl

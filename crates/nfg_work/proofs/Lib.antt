@@ -18,3 +18,4 @@ pub mod Answered
 pub mod JoinedValues
 pub mod FailedReads
 pub mod Leveled
+pub mod Reached

@@ -54,7 +54,8 @@ IsHeld known reads held = (state : State) × Holds known reads held state × All
 
 -- A command that interns nothing does what the step does: the next state is held, in which the same clusters are in
 -- use, or the line is refused for the same cause and the output stays. Want of memory may come in place of either.
-abbrev pub Does : Texts → List FileRead → (used : List (List ℕ)) → (old new : Evaluation) → Result (Unit {0}) Stop → Result State Cause → Type 0
+abbrev pub Does : Texts → List FileRead → (used : List (List ℕ)) → (old new : Evaluation)
+    → Result (Unit {0}) Stop → Result State Cause → Type 0
 Does known reads used old new (Ok done) step =
     (next : State) × (step ≡ Ok next) × Holds known reads new next × (next.used ≡ used)
 Does known reads used old new (Err (Refused cause)) step = (step ≡ Err cause) × (new.output ≡ old.output)
@@ -69,7 +70,8 @@ pub record Grows (old new : Texts) (before behind : List (List ℕ)) : Type 0 wh
 
 -- The table has refused a cluster of the value that the next name was to get, for a reason. Nothing but a want of places
 -- refuses the step.
-pub record IsRefusedBy (places : ℕ) (used : List (List ℕ)) (old new : Texts) (Reason : List ℕ → Type 0) (step : Result State Cause) : Type 0 where
+pub record IsRefusedBy
+    (places : ℕ) (used : List (List ℕ)) (old new : Texts) (Reason : List ℕ → Type 0) (step : Result State Cause) : Type 0 where
   pub clusters : List (List ℕ)
   pub next : State
   pub step_is : step ≡ with_places places (used ++ filter takes_place clusters) next
@@ -77,7 +79,8 @@ pub record IsRefusedBy (places : ℕ) (used : List (List ℕ)) (old new : Texts)
 
 -- A command does what the step does, over a table of so many places: the next state is held, or the line is refused for
 -- the same cause and the output stays. The table's refusals and want of memory may come in place of either.
-abbrev pub Follows : (places : ℕ) → (pass after : Seen) → List FileRead → (used : List (List ℕ)) → (old new : Evaluation) → Result (Unit {0}) Stop → Result State Cause → Type 0
+abbrev pub Follows : (places : ℕ) → (pass after : Seen) → List FileRead → (used : List (List ℕ)) → (old new : Evaluation)
+    → Result (Unit {0}) Stop → Result State Cause → Type 0
 Follows places pass after reads used old new (Ok done) step =
     (next : State) × (step ≡ Ok next) × Holds after.known reads new next × Grows pass.known after.known used next.used
 Follows places pass after reads used old new (Err (Refused cause)) step = (step ≡ Err cause) × (new.output ≡ old.output)

@@ -4,6 +4,7 @@ pub mod Evaluation
 pub mod Holding
 pub mod Laws
 pub mod Levels
+pub mod Reach
 pub mod Separated
 pub use Rattle.nfg_seam.specs.ClusterPieces
 pub use Rattle.nfg_seam.specs.ConcatPieces
