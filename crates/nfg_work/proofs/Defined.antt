@@ -1,24 +1,23 @@
 -- A name that is defined, or refused, as the step says.
-use Rattle.std.proofs.Common.{◌≡◌, ℕ, ◌+◌, Bool, true, false, nat_lt, List, [], ◌∷◌, ◌++◌, bytes_eq, Some, None, Result, Ok, Err, OnOk, IfErr, refl, sym, ap, ◌∙◌}
+use Rattle.std.proofs.Common.{◌≡◌, ℕ, ◌+◌, Bool, true, false, nat_lt, List, [], ◌∷◌, ◌++◌, bytes_eq, Some, None, Result, Ok, Err, OnOk, IfErr, refl, sym, ap, ◌∙◌, subst}
 use Rattle.std.specs.Set.{distinct_count}
+use Rattle.nfg_text.specs.Graphemes.{graphemes_of}
 use Rattle.nfg_decode.specs.Decoded.{Decoded}
 use Rattle.nfg_syn.specs.Known.{Texts, IsKnowledge}
 use Rattle.nfg_syn.specs.Seen.{Seen, Keeps}
 use Rattle.nfg_strand.specs.Value.{Rope}
-use Rattle.nfg_stream.specs.declared.error.LoadError.{LoadError}
-use Rattle.nfg_stream.specs.declared.error.LoadError.TheVariants.{Malformed, ClusterLong, RowFull as LoadedFull, NoPortion as NoLoadedPortion, OutOfMemory as NoMemory}
-use Rattle.nfg_stream.specs.Load.{HasMade, HasLoaded}
-use Rattle.nfg_syn.specs.Learned.{HasLearned, StopsAt, several, first_long}
+use Rattle.nfg_syn.specs.Learned.{StopsAt, first_long}
 use Rattle.nfg_work.specs.declared.evaluation.Evaluation.{Evaluation}
 use Rattle.nfg_work.specs.declared.output.Cause.TheVariants.{AllTooLong, ClusterTooLong, Malformed as TextMalformed}
 use Rattle.nfg_work.specs.declared.output.FileRead.{FileRead}
 use Rattle.nfg_work.specs.declared.stop.Stop.{Stop}
 use Rattle.nfg_work.specs.declared.stop.Stop.TheVariants.{Refused, RowFull, NoPortion, OutOfMemory}
 use Rattle.nfg_work.specs.Values.{Value, flat}
-use Rattle.nfg_work.specs.Evaluation.{State, used_with, with_places, define_value, define_new, define_decoded}
-use Rattle.nfg_work.specs.Holding.{IsStringOf, Holds, Follows, IsRefusedBy, IsStopOf, IsStopAfter, IsDefined}
+use Rattle.nfg_work.specs.Evaluation.{State, used_with, with_places, define_value, define_decoded}
+use Rattle.nfg_work.specs.Holding.{Holds, Follows, IsRefusedBy, IsDefined}
+use Rattle.nfg_work.specs.Making.{HasString, IsMadeOf, IsStopAfter, unless_long, file_value}
 use Rattle.nfg_work.proofs.InUse.{AreNumbered-made, Grows-learned, numbered_fit}
-use Rattle.nfg_work.proofs.Narrow.{flat_same}
+use Rattle.nfg_work.proofs.Wanted.{unless_long-ok, unless_long-err}
 use Rattle.nfg_work.proofs.Strings.{AreStringsOf-grows, AreStringsOf-push}
 
 -- the state once the next name has this value
@@ -55,12 +54,6 @@ define_value-ok places state cost value fits short few = rw (fits, short, few) r
 pub spent_same : (cost : ℕ) (known : Texts) (reads : List FileRead) (old : Evaluation) (state : State) (over : Bool) → Holds known reads old state
     → nat_lt 536870912 (old.spent + cost) ≡ over → nat_lt 536870912 (state.spent + cost) ≡ over
 spent_same cost known reads old state over h e = ap (λ n. nat_lt 536870912 (n + cost)) (sym h.spent) ∙ e
-
--- what a pass has learned that has a string for the value
-pub record HasString (value : Value) (old new : Texts) (string : Rope) : Type 0 where
-  pub short : first_long value.clusters ≡ None
-  pub is : IsStringOf new string value
-  pub learned : HasLearned old (several value.clusters) new
 
 -- such a string is the next name's
 pub value_follows : (places cost : ℕ) (pass after : Seen) (reads : List FileRead) (old new : Evaluation) (string : Rope) (result : Result (Unit {0}) Stop)
@@ -110,83 +103,89 @@ refused_by places cost pass after reads old value state Reason h fits stops = re
 
 -- a string that was made is the next name's
 pub made_follows : (places cost : ℕ) (pass after : Seen) (reads : List FileRead) (old new : Evaluation) (string : Rope) (result : Result (Unit {0}) Stop)
-    (clusters : List (List ℕ)) (state : State) → Holds pass.known reads old state → nat_lt 536870912 (old.spent + cost) ≡ false
-    → IsKnowledge places after.known after.places → Keeps pass after → HasMade clusters pass after (Ok string)
+    (value : Value) (state : State) → Holds pass.known reads old state → nat_lt 536870912 (old.spent + cost) ≡ false
+    → IsKnowledge places after.known after.places → Keeps pass after → IsMadeOf (unless_long value) pass after (Ok string)
     → OnOk result (IsDefined old new cost string) → IfErr result (λ stop. stop ≡ OutOfMemory)
-    → Follows places pass after reads state.used old new result (define_new places state cost clusters)
-made_follows places cost pass after reads old new string result clusters state h fits knows keeps made d none =
-    let has : HasString (flat clusters) pass.known after.known string = record {
-      short = made.short;
-      is = record {
-        represents = made.represents;
-        pieces = made.pieces ∙ flat_same places after.known after.places knows string.graphemes clusters made.represents;
-      };
-      learned = made.learned;
-    } in
-    value_follows places cost pass after reads old new string result (flat clusters) state h fits knows keeps has d none
+    → Follows places pass after reads state.used old new result (define_value places state cost value)
+made_follows places cost pass after reads old new string result value state h fits knows keeps made d none =
+    let is = (unless_long-ok value made.0 made.1).1 in
+    value_follows places cost pass after reads old new string result value state h fits knows keeps
+    (subst (λ v. HasString v pass.known after.known string) (sym is) made.2) d none
 
--- the refusal of a table or a stream is that of the step
-pub made_refused : (places cost : ℕ) (pass after : Seen) (reads : List FileRead) (old new : Evaluation) (error : LoadError) (stop : Stop)
-    (clusters : List (List ℕ)) (state : State) → Holds pass.known reads old state → nat_lt 536870912 (old.spent + cost) ≡ false
-    → HasMade clusters pass after (Err error) → IsStopOf error stop → new.output ≡ old.output
-    → Follows places pass after reads state.used old new (Err stop) (define_new places state cost clusters)
-made_refused places cost pass after reads old new (Malformed at) stop clusters state h fits made is same = absurd made
-made_refused places cost pass after reads old new (ClusterLong at) stop clusters state h fits made is same =
-    rw is (long_follows places cost at pass after reads old new (flat clusters) state h fits made.0 same)
-made_refused places cost pass after reads old new LoadedFull stop clusters state h fits made is same =
-    rw is (refused_by places cost pass.known after.known reads old (flat clusters) state after.full h fits made, same)
-made_refused places cost pass after reads old new NoLoadedPortion stop clusters state h fits made is same =
-    rw is (refused_by places cost pass.known after.known reads old (flat clusters) state (λ _. after.drained) h fits made, same)
-made_refused places cost pass after reads old new NoMemory stop clusters state h fits made is same = rw is tt
+-- a string that was not made
+pub stopped_follows : (places cost : ℕ) (pass after : Seen) (reads : List FileRead) (old new : Evaluation) (stop : Stop) (value : Value) (state : State)
+    → Holds pass.known reads old state → nat_lt 536870912 (old.spent + cost) ≡ false → IsMadeOf (unless_long value) pass after (Err stop)
+    → new.output ≡ old.output → Follows places pass after reads state.used old new (Err stop) (define_value places state cost value)
+stopped_follows places cost pass after reads old new (Refused cause) value state h fits made same =
+    let long = unless_long-err value cause made.0 in
+    (define_value-long places state cost long.0 value (spent_same cost pass.known reads old state false h fits) long.1 ∙ ap (λ c. Err c) (sym long.2), same)
+stopped_follows places cost pass after reads old new RowFull value state h fits made same =
+    let is = (unless_long-ok value made.0 made.1).1 in (
+      refused_by places cost pass.known after.known reads old value state after.full h fits
+          (subst (λ v. StopsAt v.clusters pass.known after.known after.full) (sym is) made.2),
+      same,
+    )
+stopped_follows places cost pass after reads old new NoPortion value state h fits made same =
+    let is = (unless_long-ok value made.0 made.1).1 in (
+      refused_by places cost pass.known after.known reads old value state (λ _. after.drained) h fits
+          (subst (λ v. StopsAt v.clusters pass.known after.known (λ _. after.drained)) (sym is) made.2),
+      same,
+    )
+stopped_follows places cost pass after reads old new OutOfMemory value state h fits made same = tt
 
 -- the same for bytes that decode so
-pub loaded_follows : (places cost : ℕ) (pass after : Seen) (reads : List FileRead) (old new : Evaluation) (string : Rope) (result : Result (Unit {0}) Stop)
+pub file_follows : (places cost : ℕ) (pass after : Seen) (reads : List FileRead) (old new : Evaluation) (string : Rope) (result : Result (Unit {0}) Stop)
     (decoded : Decoded) (state : State) → Holds pass.known reads old state → nat_lt 536870912 (old.spent + cost) ≡ false
-    → IsKnowledge places after.known after.places → Keeps pass after → HasLoaded decoded pass after (Ok string)
+    → IsKnowledge places after.known after.places → Keeps pass after → IsMadeOf (file_value decoded) pass after (Ok string)
     → OnOk result (IsDefined old new cost string) → IfErr result (λ stop. stop ≡ OutOfMemory)
     → Follows places pass after reads state.used old new result (define_decoded places state cost decoded)
-loaded_follows places cost pass after reads old new string result (Ok text) state h fits knows keeps loaded d none =
-    made_follows places cost pass after reads old new string result _ state h fits knows keeps loaded d none
-loaded_follows places cost pass after reads old new string result (Err at) state h fits knows keeps loaded d none = absurd loaded
+file_follows places cost pass after reads old new string result (Ok text) state h fits knows keeps made d none =
+    made_follows places cost pass after reads old new string result (flat (graphemes_of text)) state h fits knows keeps made d none
+file_follows places cost pass after reads old new string result (Err at) state h fits knows keeps made d none = let never = made.1 in cc
 
--- a load whose text has such clusters, and costs too much
-over_follows : (places cost : ℕ) (pass after : Seen) (reads : List FileRead) (old new : Evaluation) (stop : Stop) (clusters : List (List ℕ)) (state : State)
+-- a load whose text costs too much
+over_follows : (places cost : ℕ) (pass after : Seen) (reads : List FileRead) (old new : Evaluation) (stop : Stop) (value : Value) (state : State)
     → Holds pass.known reads old state → nat_lt 536870912 (old.spent + cost) ≡ true → stop ≡ Refused AllTooLong → new.output ≡ old.output
-    → Follows places pass after reads state.used old new (Err stop) (define_new places state cost clusters)
-over_follows places cost pass after reads old new stop clusters state h e is same =
-    rw is (define_value-over places state cost (flat clusters) (spent_same cost pass.known reads old state true h e), same)
+    → Follows places pass after reads state.used old new (Err stop) (define_value places state cost value)
+over_follows places cost pass after reads old new stop value state h e is same =
+    rw is (define_value-over places state cost value (spent_same cost pass.known reads old state true h e), same)
 
--- the refusal of a load: malformed bytes come first, and then the cost
-pub loaded_refused : (places cost : ℕ) (pass after : Seen) (reads : List FileRead) (old new : Evaluation) (error : LoadError) (stop : Stop) (over : Bool)
-    (decoded : Decoded) (state : State) → Holds pass.known reads old state → nat_lt 536870912 (old.spent + cost) ≡ over
-    → HasLoaded decoded pass after (Err error) → IsStopAfter over error stop → new.output ≡ old.output
-    → Follows places pass after reads state.used old new (Err stop) (define_decoded places state cost decoded)
-loaded_refused places cost pass after reads old new (Malformed at) stop over (Ok text) state h e loaded is same = absurd loaded
-loaded_refused places cost pass after reads old new (Malformed at) stop over (Err place) state h e loaded is same =
-    let step : define_decoded places state cost (Err place) ≡ Err (TextMalformed at) = ap (λ p. Err (TextMalformed p)) (sym loaded.0) in
-    rw is (step, same)
-loaded_refused places cost pass after reads old new NoMemory stop over decoded state h e loaded is same = rw is tt
-loaded_refused places cost pass after reads old new (ClusterLong at) stop over (Err place) state h e loaded is same = absurd loaded
-loaded_refused places cost pass after reads old new (ClusterLong at) stop true (Ok text) state h e loaded is same =
-    over_follows places cost pass after reads old new stop _ state h e is same
-loaded_refused places cost pass after reads old new (ClusterLong at) stop false (Ok text) state h e loaded is same =
-    made_refused places cost pass after reads old new (ClusterLong at) stop _ state h e loaded is same
-loaded_refused places cost pass after reads old new LoadedFull stop over (Err place) state h e loaded is same = absurd loaded
-loaded_refused places cost pass after reads old new LoadedFull stop true (Ok text) state h e loaded is same =
-    over_follows places cost pass after reads old new stop _ state h e is same
-loaded_refused places cost pass after reads old new LoadedFull stop false (Ok text) state h e loaded is same =
-    made_refused places cost pass after reads old new LoadedFull stop _ state h e loaded is same
-loaded_refused places cost pass after reads old new NoLoadedPortion stop over (Err place) state h e loaded is same = absurd loaded
-loaded_refused places cost pass after reads old new NoLoadedPortion stop true (Ok text) state h e loaded is same =
-    over_follows places cost pass after reads old new stop _ state h e is same
-loaded_refused places cost pass after reads old new NoLoadedPortion stop false (Ok text) state h e loaded is same =
-    made_refused places cost pass after reads old new NoLoadedPortion stop _ state h e loaded is same
-
--- a string that was made, and costs too much
-pub loaded_over : (places cost : ℕ) (pass after : Seen) (reads : List FileRead) (old new : Evaluation) (string : Rope)
+pub file_over : (places cost : ℕ) (pass after : Seen) (reads : List FileRead) (old new : Evaluation) (string : Rope)
     (decoded : Decoded) (state : State) → Holds pass.known reads old state → nat_lt 536870912 (old.spent + cost) ≡ true
-    → HasLoaded decoded pass after (Ok string) → new.output ≡ old.output
+    → IsMadeOf (file_value decoded) pass after (Ok string) → new.output ≡ old.output
     → Follows places pass after reads state.used old new (Err (Refused AllTooLong)) (define_decoded places state cost decoded)
-loaded_over places cost pass after reads old new string (Ok text) state h e loaded same =
-    (define_value-over places state cost (flat _) (spent_same cost pass.known reads old state true h e), same)
-loaded_over places cost pass after reads old new string (Err place) state h e loaded same = absurd loaded
+file_over places cost pass after reads old new string (Ok text) state h e made same =
+    over_follows places cost pass after reads old new (Refused AllTooLong) (flat (graphemes_of text)) state h e refl same
+file_over places cost pass after reads old new string (Err place) state h e made same = let never = made.1 in cc
+
+-- a text whose string was not made, and may cost too much
+text_stopped_follows : (places cost : ℕ) (pass after : Seen) (reads : List FileRead) (old new : Evaluation) (stop told : Stop) (over : Bool) (value : Value) (state : State)
+    → Holds pass.known reads old state → nat_lt 536870912 (old.spent + cost) ≡ over → IsMadeOf (unless_long value) pass after (Err stop)
+    → IsStopAfter over stop told → new.output ≡ old.output → Follows places pass after reads state.used old new (Err told) (define_value places state cost value)
+text_stopped_follows places cost pass after reads old new (Refused cause) told over value state h e made is same =
+    let long = unless_long-err value cause made.0 in
+    by over (subst (λ c. IsStopAfter over (Refused c) told) long.2 is) e (subst (λ c. IsMadeOf (unless_long value) pass after (Err (Refused c))) long.2 made)
+  where
+    by : {at : ℕ} (b : Bool) → IsStopAfter b (Refused (ClusterTooLong at)) told → nat_lt 536870912 (old.spent + cost) ≡ b
+        → IsMadeOf (unless_long value) pass after (Err (Refused (ClusterTooLong at))) → Follows places pass after reads state.used old new (Err told) (define_value places state cost value)
+    by true stops much so = over_follows places cost pass after reads old new told value state h much stops same
+    by false stops fits so = rw stops (stopped_follows places cost pass after reads old new (Refused (ClusterTooLong _)) value state h fits so same)
+text_stopped_follows places cost pass after reads old new RowFull told true value state h e made is same = over_follows places cost pass after reads old new told value state h e is same
+text_stopped_follows places cost pass after reads old new RowFull told false value state h e made is same = rw is (stopped_follows places cost pass after reads old new RowFull value state h e made same)
+text_stopped_follows places cost pass after reads old new NoPortion told true value state h e made is same = over_follows places cost pass after reads old new told value state h e is same
+text_stopped_follows places cost pass after reads old new NoPortion told false value state h e made is same = rw is (stopped_follows places cost pass after reads old new NoPortion value state h e made same)
+text_stopped_follows places cost pass after reads old new OutOfMemory told over value state h e made is same = rw is tt
+
+-- a file whose string was not made: malformed bytes come first, and then the cost
+pub file_stopped_follows : (places cost : ℕ) (pass after : Seen) (reads : List FileRead) (old new : Evaluation) (stop told : Stop) (over : Bool) (decoded : Decoded) (state : State)
+    → Holds pass.known reads old state → nat_lt 536870912 (old.spent + cost) ≡ over → IsMadeOf (file_value decoded) pass after (Err stop)
+    → IsStopAfter over stop told → new.output ≡ old.output → Follows places pass after reads state.used old new (Err told) (define_decoded places state cost decoded)
+file_stopped_follows places cost pass after reads old new stop told over (Ok text) state h e made is same =
+    text_stopped_follows places cost pass after reads old new stop told over (flat (graphemes_of text)) state h e made is same
+file_stopped_follows places cost pass after reads old new (Refused cause) told over (Err at) state h e made is same =
+    let cause_is : cause ≡ TextMalformed at = let so = made.0 in cc in
+    let told_is : told ≡ Refused (TextMalformed at) = subst (λ c. IsStopAfter over (Refused c) told) cause_is is in
+    rw told_is (refl, same)
+file_stopped_follows places cost pass after reads old new RowFull told over (Err at) state h e made is same = let never = made.1 in cc
+file_stopped_follows places cost pass after reads old new NoPortion told over (Err at) state h e made is same = let never = made.1 in cc
+file_stopped_follows places cost pass after reads old new OutOfMemory told over (Err at) state h e made is same = rw is tt

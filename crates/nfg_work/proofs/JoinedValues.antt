@@ -4,22 +4,19 @@ use Rattle.std.proofs.lemmas.Bool.{lt-ltb}
 use Rattle.nfg_syn.specs.Known.{Texts, IsKnowledge}
 use Rattle.nfg_syn.specs.RepresentsLaws.{Represents-length}
 use Rattle.nfg_syn.specs.Seen.{Seen, Keeps}
-use Rattle.nfg_text.specs.Operations.{concatenation, repetition}
-use Rattle.nfg_seam.specs.ConcatPieces.{concat_pieces, repetition_pieces}
 use Rattle.nfg_strand.specs.Value.{Rope}
-use Rattle.nfg_seam.specs.Made.{HasJoined}
-use Rattle.nfg_seam.specs.declared.error.SeamError.{SeamError}
-use Rattle.nfg_seam.specs.declared.error.SeamError.TheVariants.{TooLong, ClusterLong, RowFull as JoinedFull, NoPortion as NoJoinedPortion, OutOfMemory as NoMemory}
 use Rattle.nfg_work.specs.declared.evaluation.Evaluation.{Evaluation}
 use Rattle.nfg_work.specs.declared.output.Cause.{Cause}
 use Rattle.nfg_work.specs.declared.output.Cause.TheVariants.{StringTooLong, AllTooLong}
 use Rattle.nfg_work.specs.declared.output.FileRead.{FileRead}
 use Rattle.nfg_work.specs.declared.stop.Stop.{Stop}
-use Rattle.nfg_work.specs.declared.stop.Stop.TheVariants.{Refused, RowFull, NoPortion, OutOfMemory}
+use Rattle.nfg_work.specs.declared.stop.Stop.TheVariants.{Refused, OutOfMemory}
 use Rattle.nfg_work.specs.Values.{Value, joined, repeated}
 use Rattle.nfg_work.specs.Evaluation.{State, join_limit, cost_limit, define_value, define_joined, define_cat, define_rep}
-use Rattle.nfg_work.specs.Holding.{IsStringOf, Holds, Follows, IsDefined, IsSeamStop, join_refusal}
-use Rattle.nfg_work.proofs.Defined.{HasString, spent_same, value_follows, long_follows, refused_by}
+use Rattle.nfg_work.specs.Holding.{IsStringOf, Holds, Follows, IsDefined, join_refusal}
+use Rattle.nfg_work.specs.Making.{IsMadeOf, unless_many, cat_wanted, rep_wanted}
+use Rattle.nfg_work.proofs.Wanted.{unless_many-few}
+use Rattle.nfg_work.proofs.Defined.{spent_same, made_follows, stopped_follows}
 
 -- the tests behind a refusal
 by_tests : (over much : Bool) (cause : Cause)
@@ -52,62 +49,39 @@ within_limits spent count none = by_no_test (nat_lt join_limit count) (nat_lt co
 -- a string that was joined is the next name's
 pub joined_follows : (places count : ℕ) (pass after : Seen) (reads : List FileRead) (old new : Evaluation) (string : Rope) (result : Result (Unit {0}) Stop)
     (value : Value) (state : State) → Holds pass.known reads old state → join_refusal old.spent count ≡ None
-    → IsKnowledge places after.known after.places → Keeps pass after
-    → HasJoined count value.clusters value.pieces pass after (Ok string)
+    → IsKnowledge places after.known after.places → Keeps pass after → IsMadeOf (unless_many count value) pass after (Ok string)
     → OnOk result (IsDefined old new count string) → IfErr result (λ stop. stop ≡ OutOfMemory)
     → Follows places pass after reads state.used old new result (define_joined places state count value)
 joined_follows places count pass after reads old new string result value state h none knows keeps made d memory =
     let limits = within_limits old.spent count none in
-    let has : HasString value pass.known after.known string = record {
-      short = made.1.short;
-      is = record { represents = made.1.represents; pieces = made.1.in_pieces };
-      learned = made.1.learned;
-    } in
     let step : define_joined places state count value ≡ define_value places state count value = rw limits.0 refl in
     subst (Follows places pass after reads state.used old new result) (sym step)
-    (value_follows places count pass after reads old new string result value state h limits.1 knows keeps has d memory)
+    (made_follows places count pass after reads old new string result value state h limits.1 knows keeps
+    (subst (λ wanted. IsMadeOf wanted pass after (Ok string)) (unless_many-few count value limits.0) made) d memory)
 
--- the refusal of a seam is that of the step
-pub joined_refused : (places count : ℕ) (pass after : Seen) (reads : List FileRead) (old new : Evaluation) (error : SeamError) (stop : Stop)
+-- a string that was not joined
+pub joined_stopped_follows : (places count : ℕ) (pass after : Seen) (reads : List FileRead) (old new : Evaluation) (stop : Stop)
     (value : Value) (state : State) → Holds pass.known reads old state → join_refusal old.spent count ≡ None
-    → HasJoined count value.clusters value.pieces pass after (Err error) → IsSeamStop error stop → new.output ≡ old.output
+    → IsMadeOf (unless_many count value) pass after (Err stop) → new.output ≡ old.output
     → Follows places pass after reads state.used old new (Err stop) (define_joined places state count value)
-joined_refused places count pass after reads old new TooLong stop value state h none made is same =
-    let over : nat_lt join_limit count ≡ true = lt-ltb join_limit count made.0 in
-    let fits = (within_limits old.spent count none).0 in
-    let clash : true ≡ false = sym over ∙ fits in cc
-joined_refused places count pass after reads old new (ClusterLong at) stop value state h none made is same =
+joined_stopped_follows places count pass after reads old new stop value state h none made same =
     let limits = within_limits old.spent count none in
     let step : define_joined places state count value ≡ define_value places state count value = rw limits.0 refl in
-    rw is (subst (Follows places pass after reads state.used old new (Err (Refused _))) (sym step)
-    (long_follows places count at pass after reads old new value state h limits.1 made.1 same))
-joined_refused places count pass after reads old new JoinedFull stop value state h none made is same =
-    let limits = within_limits old.spent count none in
-    let step : define_joined places state count value ≡ define_value places state count value = rw limits.0 refl in
-    rw is (subst (Follows places pass after reads state.used old new (Err RowFull)) (sym step)
-    (refused_by places count pass.known after.known reads old value state after.full h limits.1 made.1, same))
-joined_refused places count pass after reads old new NoJoinedPortion stop value state h none made is same =
-    let limits = within_limits old.spent count none in
-    let step : define_joined places state count value ≡ define_value places state count value = rw limits.0 refl in
-    rw is (subst (Follows places pass after reads state.used old new (Err NoPortion)) (sym step)
-    (refused_by places count pass.known after.known reads old value state (λ _. after.drained) h limits.1 made.1, same))
-joined_refused places count pass after reads old new NoMemory stop value state h none made is same = rw is tt
+    subst (Follows places pass after reads state.used old new (Err stop)) (sym step)
+    (stopped_follows places count pass after reads old new stop value state h limits.1
+    (subst (λ wanted. IsMadeOf wanted pass after (Err stop)) (unless_many-few count value limits.0) made) same)
 
 len_of : (known : Texts) (string : Rope) (value : Value) (len : ℕ) → IsStringOf known string value → len ≡ length string.graphemes
     → len ≡ length value.clusters
 len_of known string value len is e = e ∙ Represents-length known string.graphemes value.clusters is.represents
 
--- what comes of two strings that are joined is what comes of the joined values
-pub cat_joined : (known : Texts) (a b : Rope) (left right : Value) (m n : ℕ) (old new : Seen) (result : Result Rope SeamError)
+-- so many numbers as clusters are joined
+pub cat_counted : (known : Texts) (a b : Rope) (left right : Value) (m n : ℕ) (pass after : Seen) (result : Result Rope Stop)
     → IsStringOf known a left → IsStringOf known b right → m ≡ length a.graphemes → n ≡ length b.graphemes
-    → HasJoined (length left.clusters + length right.clusters) (concatenation left.clusters right.clusters)
-    (concat_pieces left.clusters right.clusters a.pieces b.pieces) old new result
-    → HasJoined (m + n) (joined left right).clusters (joined left right).pieces old new result
-cat_joined known a b left right m n old new result is_left is_right m_is n_is made =
+    → IsMadeOf (cat_wanted left right) pass after result → IsMadeOf (unless_many (m + n) (joined left right)) pass after result
+cat_counted known a b left right m n pass after result is_left is_right m_is n_is made =
     let counts = ap₂ ◌+◌ (len_of known a left m is_left m_is) (len_of known b right n is_right n_is) in
-    let pieces = ap₂ (concat_pieces left.clusters right.clusters) is_left.pieces is_right.pieces in
-    subst (λ count. HasJoined count (joined left right).clusters (joined left right).pieces old new result) (sym counts)
-    (subst (λ ps. HasJoined (length left.clusters + length right.clusters) (joined left right).clusters ps old new result) pieces made)
+    subst (λ count. IsMadeOf (unless_many count (joined left right)) pass after result) (sym counts) made
 
 -- so it is the step
 pub cat_step : (known : Texts) (a b : Rope) (left right : Value) (m n places : ℕ) (pass after : Seen) (reads : List FileRead) (old new : Evaluation) (state : State)
@@ -118,16 +92,13 @@ cat_step known a b left right m n places pass after reads old new state result i
     subst (λ count. Follows places pass after reads state.used old new result (define_joined places state count (joined left right)))
     (ap₂ ◌+◌ (len_of known a left m is_left m_is) (len_of known b right n is_right n_is)) follows
 
--- what comes of a string that is repeated is what comes of the repeated value
-pub rep_joined : (known : Texts) (a : Rope) (value : Value) (len times : ℕ) (old new : Seen) (result : Result Rope SeamError)
-    → IsStringOf known a value → len ≡ length a.graphemes
-    → HasJoined (length value.clusters * times) (repetition value.clusters times) (repetition_pieces value.clusters a.pieces times) old new result
-    → HasJoined (len * times) (repeated value times).clusters (repeated value times).pieces old new result
-rep_joined known a value len times old new result is len_is made =
-    let count = ap (λ n. n * times) (len_of known a value len is len_is) in
-    let pieces = ap (λ ps. repetition_pieces value.clusters ps times) is.pieces in
-    subst (λ n. HasJoined n (repeated value times).clusters (repeated value times).pieces old new result) (sym count)
-    (subst (λ ps. HasJoined (length value.clusters * times) (repeated value times).clusters ps old new result) pieces made)
+-- and so many where one is repeated
+pub rep_counted : (known : Texts) (a : Rope) (value : Value) (count len times : ℕ) (pass after : Seen) (result : Result Rope Stop)
+    → IsStringOf known a value → len ≡ length a.graphemes → count ≡ len * times
+    → IsMadeOf (rep_wanted value times) pass after result → IsMadeOf (unless_many count (repeated value times)) pass after result
+rep_counted known a value count len times pass after result is len_is count_is made =
+    let counts = count_is ∙ ap (λ n. n * times) (len_of known a value len is len_is) in
+    subst (λ n. IsMadeOf (unless_many n (repeated value times)) pass after result) (sym counts) made
 
 -- so it is the step
 pub rep_step : (known : Texts) (a : Rope) (value : Value) (len times places : ℕ) (pass after : Seen) (reads : List FileRead) (old new : Evaluation) (state : State)

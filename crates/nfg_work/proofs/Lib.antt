@@ -4,6 +4,7 @@ pub mod InUse
 pub mod OwnUse
 pub mod Narrow
 pub mod Strings
+pub mod Wanted
 pub mod Defined
 pub mod Parts
 pub mod Hexadecimals

@@ -138,13 +138,6 @@ join_refusal spent count =
     if nat_lt join_limit count then Some StringTooLong
     else (if nat_lt cost_limit (spent + count) then Some AllTooLong else None)
 
--- the same for a load that may cost too much: malformed bytes come before the cost, and the cost before the rest
-abbrev pub IsStopAfter : (over : Bool) → LoadError → Stop → Type 0
-IsStopAfter over (Malformed at) stop = stop ≡ Refused (TextMalformed at)
-IsStopAfter over NoMemory stop = stop ≡ OutOfMemory
-IsStopAfter true error stop = stop ≡ Refused AllTooLong
-IsStopAfter false error stop = IsStopOf error stop
-
 -- one more string stands at the end, and its cost is spent
 pub record IsDefined (old new : Evaluation) (cost : ℕ) (string : Rope) : Type 0 where
   pub strings : new.strings.items ≡ old.strings.items ++ string ∷ []

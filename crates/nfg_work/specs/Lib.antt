@@ -2,6 +2,7 @@ pub mod Values
 pub mod Printing
 pub mod Evaluation
 pub mod Holding
+pub mod Making
 pub mod Laws
 pub mod Levels
 pub mod Reach

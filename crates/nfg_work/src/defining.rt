@@ -5,20 +5,20 @@ ghost use Rattle.nfg_text.specs.Graphemes.{graphemes_of};
 ghost use Rattle.nfg_decode.specs.Encoding.{decode};
 ghost use Rattle.nfg_syn.specs.Known.{Texts, IsKnowledge};
 ghost use Rattle.nfg_syn.specs.Seen.{Keeps, SameCounts};
-ghost use Rattle.nfg_stream.specs.Load.{HasLoaded};
 ghost use Rattle.nfg_work.specs.declared.output.FileRead.{FileRead};
 ghost use Rattle.nfg_work.specs.declared.stop.Stop.{Stop};
 ghost use Rattle.nfg_work.specs.Evaluation.{State, define_new, define_decoded, load as load_next, define_part, value_of, AreWithinLimit};
-ghost use Rattle.nfg_work.specs.Holding.{Holds, Does, Follows, IsStopOf, IsStopAfter, IsDefined};
+ghost use Rattle.nfg_work.specs.Holding.{Holds, Does, Follows, IsDefined};
+ghost use Rattle.nfg_work.specs.Making.{IsStopAfter};
 
 use crate::evaluation::Evaluation;
+use crate::making::{string_of_file, string_of_text};
 use crate::naming::string_of_name;
 use crate::stop::Stop;
 use crate::{Cause, FileRead};
 use nfg_decode::Encoding;
 use nfg_ops::{SubError, substring};
 use nfg_strand::NString;
-use nfg_stream::{DecodeStream, LoadError, string_of};
 use nfg_syn::Synthetics;
 use std::alloc::Global;
 
@@ -35,31 +35,18 @@ pub(crate) fn is_over(spent: u64, cost: u64) -> bool
     cost > COST_LIMIT - spent
 }
 
-/// Why a load or a text defines no name.
-fn stop_of(error: LoadError) -> Stop
-    ensures { IsStopOf error result }
-{
-    match error {
-        LoadError::Malformed { at } => Stop::Refused(Cause::Malformed { at }),
-        LoadError::ClusterLong { at } => Stop::Refused(Cause::ClusterTooLong { at }),
-        LoadError::RowFull => Stop::RowFull,
-        LoadError::NoPortion => Stop::NoPortion,
-        LoadError::OutOfMemory => Stop::OutOfMemory,
-    }
-}
-
 /// Why a load defines no name: malformed bytes come before the cost, and the cost before the rest.
-fn stop_after(error: LoadError, over: bool) -> Stop
-    ensures { IsStopAfter over error result }
+fn stop_after(stop: Stop, over: bool) -> Stop
+    ensures { IsStopAfter over stop result }
 {
-    match error {
-        LoadError::Malformed { at } => Stop::Refused(Cause::Malformed { at }),
-        LoadError::OutOfMemory => Stop::OutOfMemory,
+    match stop {
+        Stop::Refused(Cause::Malformed { at }) => Stop::Refused(Cause::Malformed { at }),
+        Stop::OutOfMemory => Stop::OutOfMemory,
         _ => {
             if over {
                 Stop::Refused(Cause::AllTooLong)
             } else {
-                stop_of(error)
+                stop
             }
         }
     }
@@ -102,31 +89,10 @@ pub(crate) fn text<T: Synthetics>(
     if is_over(held.spent, cost) {
         return Err(Stop::Refused(Cause::AllTooLong));
     }
-    match string_of(alloc, table, pass, codes) {
+    match string_of_text(alloc, table, pass, codes) {
         Ok(string) => define(held, cost, string),
-        Err(error) => Err(stop_of(error)),
+        Err(stop) => Err(stop),
     }
-}
-
-/// The string of a file's bytes.
-fn load_bytes<T: Synthetics>(
-    alloc: Global,
-    table: &T,
-    pass: &mut T::Pass,
-    e: Encoding,
-    bytes: &[u8],
-) -> Result<NString, LoadError>
-    requires table { T.is_of table.now pass.old }
-    requires limit { length bytes.now ≤ 67108864 }
-    ensures table { T.is_of table.now pass.new }
-    ensures keeps { Keeps (T.seen pass.old) (T.seen pass.new) }
-    ensures counts { SameCounts (T.seen pass.old) (T.seen pass.new) }
-    ensures loaded { HasLoaded (decode e bytes.now) (T.seen pass.old) (T.seen pass.new) result }
-{
-    let mut stream = DecodeStream::new(alloc, e);
-    // The stream keeps a refusal, and answers it again at the end.
-    let _ = stream.feed(alloc, bytes);
-    stream.finish(alloc, table, pass)
 }
 
 /// The next name gets the text of a file's bytes.
@@ -150,14 +116,14 @@ fn load_file<T: Synthetics>(
 {
     let cost = bytes.len() as u64;
     let over = is_over(held.spent, cost);
-    match load_bytes(alloc, table, pass, e, bytes) {
+    match string_of_file(alloc, table, pass, e, bytes) {
         Ok(string) => {
             if over {
                 return Err(Stop::Refused(Cause::AllTooLong));
             }
             define(held, cost, string)
         }
-        Err(error) => Err(stop_after(error, over)),
+        Err(stop) => Err(stop_after(stop, over)),
     }
 }
 

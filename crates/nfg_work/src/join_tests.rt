@@ -18,8 +18,8 @@ static ROWS: [Row; 13] = [
         b"1F1E6+1F1E7 1F1E8+1F1E6 1F1E7+1F1E8\nstrands 1 3x1/32\n",
     ),
     (
-        b"text a 1F600 200D 2194\ntext b 338\nlen a\ncat c a b\nshow c\nshape c\n",
-        b"1\n1F600+200D 21AE\nstrands 1 2x1/32\n",
+        b"text a 1F600 200D 2194\ntext b 338\nlen a\ncat c a b\nshow c\nshape c\nput c utf8\n",
+        b"1\n1F600+200D 21AE\nstrands 1 2x1/32\n\xF0\x9F\x98\x80\xE2\x80\x8D\xE2\x86\xAE",
     ),
     (
         b"text a 958\ntext b 915 93C\nshow a\nlen a\neq a b\n",

@@ -3,14 +3,14 @@ ghost use Rattle.std.specs.Prelude.{◌≡◌, List, Some, None};
 ghost use Rattle.nfg_syn.specs.Seen.{Keeps, SameCounts};
 ghost use Rattle.nfg_work.specs.declared.output.FileRead.{FileRead};
 ghost use Rattle.nfg_work.specs.Evaluation.{State, define_cat, define_rep, value_of};
-ghost use Rattle.nfg_work.specs.Holding.{Holds, IsHeld, Follows, IsSeamStop, join_refusal};
+ghost use Rattle.nfg_work.specs.Holding.{Holds, IsHeld, Follows, join_refusal};
 
 use crate::Cause;
 use crate::defining::{define, is_over};
 use crate::evaluation::Evaluation;
+use crate::making::{string_of_both, string_of_copies};
 use crate::naming::string_of_name;
 use crate::stop::Stop;
-use nfg_seam::{SeamError, concat, repeat};
 use nfg_strand::NString;
 use nfg_syn::Synthetics;
 use std::alloc::Global;
@@ -29,19 +29,6 @@ fn join_refusal(spent: u64, count: u64) -> Option<Cause>
         return Some(Cause::AllTooLong);
     }
     None
-}
-
-/// Why what was joined defines no name.
-fn stop_of_seam(error: SeamError) -> Stop
-    ensures { IsSeamStop error result }
-{
-    match error {
-        SeamError::TooLong => Stop::Refused(Cause::StringTooLong),
-        SeamError::ClusterLong { at } => Stop::Refused(Cause::ClusterTooLong { at }),
-        SeamError::RowFull => Stop::RowFull,
-        SeamError::NoPortion => Stop::NoPortion,
-        SeamError::OutOfMemory => Stop::OutOfMemory,
-    }
 }
 
 /// The next name gets two strings, joined.
@@ -70,9 +57,9 @@ pub(crate) fn cat<T: Synthetics>(
     if let Some(cause) = join_refusal(held.spent, count) {
         return Err(Stop::Refused(cause));
     }
-    match concat(alloc, table, pass, left, right) {
+    match string_of_both(alloc, table, pass, left, right) {
         Ok(string) => define(held, count, string),
-        Err(error) => Err(stop_of_seam(error)),
+        Err(stop) => Err(stop),
     }
 }
 
@@ -104,8 +91,8 @@ pub(crate) fn rep<T: Synthetics>(
     if let Some(cause) = join_refusal(held.spent, count) {
         return Err(Stop::Refused(cause));
     }
-    match repeat(alloc, table, pass, string, times) {
+    match string_of_copies(alloc, table, pass, string, times) {
         Ok(string) => define(held, count, string),
-        Err(error) => Err(stop_of_seam(error)),
+        Err(stop) => Err(stop),
     }
 }

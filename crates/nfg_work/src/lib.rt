@@ -14,6 +14,7 @@ mod joining;
 pub mod laws;
 mod level;
 mod level_list;
+mod making;
 mod naming;
 mod output;
 mod printing;

@@ -2,16 +2,15 @@ use Rattle.std.proofs.Common.{ap, refl, sym, subst, ◌*◌, ◌^◌, ◌∙◌,
 use Rattle.std.proofs.lemmas.Bool.{cases_lt}
 use Rattle.nfg_work.specs.declared.output.Cause.TheVariants.{StringTooLong}
 use Rattle.nfg_work.specs.declared.stop.Stop.TheVariants.{Refused}
-use Rattle.nfg_seam.specs.Made.{HasJoined}
 use Rattle.nfg_work.specs.Evaluation.{value_of, define_joined}
 use Rattle.nfg_work.specs.Holding.{Follows, join_refusal}
 use Rattle.nfg_work.specs.Values.{repeated}
-use Rattle.nfg_work.proofs.JoinedValues.{limit_follows, joined_follows, joined_refused, rep_joined, rep_step, many_too_long}
+use Rattle.nfg_work.proofs.JoinedValues.{limit_follows, joined_follows, joined_stopped_follows, rep_counted, rep_step, many_too_long}
 use Rattle.nfg_work.proofs.Parts.{named, named_graphemes}
 use Rattle.nfg_work.proofs.joining.rep.Goals as goal
 
-pub repeat-requires-clause-graphemes : goal.repeat-requires-clause-graphemes
-repeat-requires-clause-graphemes g c κs within =
+pub string_of_copies-requires-clause-graphemes : goal.string_of_copies-requires-clause-graphemes
+string_of_copies-requires-clause-graphemes g c κs within =
     let held = c.requires.held in
     let nothing = c.empty-nothing.result in
     named_graphemes (g.T.Synthetics.seen c.args.pass.now).known held.0 c.args.held.now c.args.a nothing c.string_of_name-string.result.now held.1 c.empty-nothing.ensures.graphemes c.empty-nothing.ensures.pieces
@@ -52,36 +51,34 @@ returns-in-Some-join_refusal-clause-joined g c = λ reads state h.
 pub returns-in-Ok-clause-joined : goal.returns-in-Ok-clause-joined
 returns-in-Ok-clause-joined g c = λ reads state h.
     let pass = g.T.Synthetics.seen c.args.pass.now in
-    let after = g.T.Synthetics.seen c.repeat.new.pass in
+    let after = g.T.Synthetics.seen c.string_of_copies.new.pass in
     let places = g.T.Synthetics.size c.args.table.now in
     let nothing = c.empty-nothing.result in
     let string = named pass.known reads c.args.held.now state c.args.a nothing c.string_of_name-string.result.now h c.empty-nothing.ensures.graphemes c.empty-nothing.ensures.pieces
     (c.string_of_name-string.ensures ∙ ap (λ v. slice_index_or v c.args.a nothing) c.deref.ensures.value) in
     let value = value_of state c.args.a in
     let count_is : c.in-Some.count ≡ c.len.result * c.args.times = c.in-Some.ensures.1 in
-    let made = rep_joined pass.known c.string_of_name-string.result.now value c.len.result c.args.times pass after (Ok c.in-Ok.string) string c.len.ensures.len
-    (c.in-Ok.ensures.repeated value.clusters string.represents) in
-    let none = ap (join_refusal c.args.held.now.spent) (sym count_is) ∙ sym c.in_default.ensures in
+    let made = rep_counted pass.known c.string_of_name-string.result.now value c.in-Some.count c.len.result c.args.times pass after (Ok c.in-Ok.string) string c.len.ensures.len count_is
+    (c.in-Ok.ensures.made value string) in
     rep_step pass.known c.string_of_name-string.result.now value c.len.result c.args.times places pass after reads c.args.held.now c.define.new.held state c.define.result string c.len.ensures.len
     (subst (λ count. Follows places pass after reads state.used c.args.held.now c.define.new.held c.define.result (define_joined places state count (repeated value c.args.times))) count_is
     (joined_follows places c.in-Some.count pass after reads c.args.held.now c.define.new.held c.in-Ok.string c.define.result (repeated value c.args.times) state h
-    (sym c.in_default.ensures) (g.met.T.Synthetics.knows c.args.table.now c.repeat.new.pass c.in-Ok.ensures.table) c.in-Ok.ensures.keeps
-    (subst (λ count. HasJoined count (repeated value c.args.times).clusters (repeated value c.args.times).pieces pass after (Ok c.in-Ok.string)) (sym count_is) made)
+    (sym c.in_default.ensures) (g.met.T.Synthetics.knows c.args.table.now c.string_of_copies.new.pass c.in-Ok.ensures.table) c.in-Ok.ensures.keeps made
     c.define.ensures.defined c.define.ensures.refused))
 
 pub returns-clause-joined : goal.returns-clause-joined
 returns-clause-joined g c = λ reads state h.
     let pass = g.T.Synthetics.seen c.args.pass.now in
-    let after = g.T.Synthetics.seen c.repeat.new.pass in
+    let after = g.T.Synthetics.seen c.string_of_copies.new.pass in
     let places = g.T.Synthetics.size c.args.table.now in
     let nothing = c.empty-nothing.result in
     let string = named pass.known reads c.args.held.now state c.args.a nothing c.string_of_name-string.result.now h c.empty-nothing.ensures.graphemes c.empty-nothing.ensures.pieces
     (c.string_of_name-string.ensures ∙ ap (λ v. slice_index_or v c.args.a nothing) c.deref.ensures.value) in
     let value = value_of state c.args.a in
     let count_is : c.in-Some.count ≡ c.len.result * c.args.times = c.in-Some.ensures.1 in
-    let made = rep_joined pass.known c.string_of_name-string.result.now value c.len.result c.args.times pass after (Err c.in-Err.error) string c.len.ensures.len
-    (c.in-Err.ensures.repeated value.clusters string.represents) in
-    let none = ap (join_refusal c.args.held.now.spent) (sym count_is) ∙ sym c.in_default.ensures in
-    rep_step pass.known c.string_of_name-string.result.now value c.len.result c.args.times places pass after reads c.args.held.now c.args.held.now state (Err c.stop_of_seam.result) string c.len.ensures.len
-    (joined_refused places (c.len.result * c.args.times) pass after reads c.args.held.now c.args.held.now c.in-Err.error c.stop_of_seam.result (repeated value c.args.times) state h
-    none made c.stop_of_seam.ensures refl)
+    let made = rep_counted pass.known c.string_of_name-string.result.now value c.in-Some.count c.len.result c.args.times pass after (Err c.in-Err.stop) string c.len.ensures.len count_is
+    (c.in-Err.ensures.made value string) in
+    rep_step pass.known c.string_of_name-string.result.now value c.len.result c.args.times places pass after reads c.args.held.now c.args.held.now state (Err c.in-Err.stop) string c.len.ensures.len
+    (subst (λ count. Follows places pass after reads state.used c.args.held.now c.args.held.now (Err c.in-Err.stop) (define_joined places state count (repeated value c.args.times))) count_is
+    (joined_stopped_follows places c.in-Some.count pass after reads c.args.held.now c.args.held.now c.in-Err.stop (repeated value c.args.times) state h
+    (sym c.in_default.ensures) made refl))
