@@ -4,9 +4,9 @@ use Rattle.std.proofs.Math.Decide.{dec_lt}
 use Rattle.std.proofs.lemmas.Bool.Decides.{eqb_tells, nat_tests}
 use mathlib.Core.Logic.{dite}
 use Rattle.nfg_words.proofs.Reading.{IsKnownBy, text_named-more}
-use Rattle.nfg_words.specs.View.{entry, Says, IsAmong, places_of}
+use Rattle.nfg_words.specs.View.{entry, Says, IsIn, IsAmong, places_of}
 use Rattle.nfg_words.specs.Rule.{IsJustified}
-use Rattle.nfg_words.specs.Steps.{below, from}
+use Rattle.nfg_words.specs.Steps.{below, from, without}
 use Rattle.nfg_words.specs.declared.view.View.{View}
 
 pub same_word : (a b : ℕ) → Some a ≡ Some b → a ≡ b
@@ -113,26 +113,73 @@ entry-below bound (pair ∷ pairs) k =
     rest)
     (lt_tells pair.0 bound)
 
--- the other pairs say nothing new
-pub says-from : (bound : ℕ) (pairs : List (ℕ × ℕ)) (k found : ℕ) → Says (from bound pairs) k found → (bound ≤ k) × Says pairs k found
-says-from bound [] k found says = absurd (none_is_not_some found says)
-says-from bound (pair ∷ pairs) k found says =
-    let choose : Bool → List (ℕ × ℕ) = λ b. if b then from bound pairs else pair ∷ from bound pairs in
-    let pick : Bool → Option ℕ → Option ℕ = λ b other. if b then Some pair.1 else other in
-    ⊎_elim
-    (λ goes. let now : entry (from bound (pair ∷ pairs)) k ≡ entry (from bound pairs) k = ap (λ b. entry (choose b) k) goes.0 in
-    let rest = says-from bound pairs k found (sym now ∙ says) in
-    let high = rest.0 in
-    ⊎_elim
-    (λ here. let same : pair.0 ≡ k = here.1 in let low : pair.0 < bound = goes.1 in absurd (omega arith))
-    (λ past. (high, ap (λ b. pick b (entry pairs k)) past.0 ∙ rest.1))
-    (eqb_tells pair.0 k))
-    (λ stays. let now : entry (from bound (pair ∷ pairs)) k ≡ pick (pair.0 == k) (entry (from bound pairs) k) = ap (λ b. entry (choose b) k) stays.0 in ⊎_elim
-    (λ here. (subst (λ m. bound ≤ m) here.1 stays.1, ap (λ b. pick b (entry pairs k)) here.0 ∙ (sym (ap (λ b. pick b (entry (from bound pairs) k)) here.0) ∙ (sym now ∙ says))))
-    (λ past. let rest = says-from bound pairs k found (sym (ap (λ b. pick b (entry (from bound pairs) k)) past.0) ∙ (sym now ∙ says)) in
-    (rest.0, ap (λ b. pick b (entry pairs k)) past.0 ∙ rest.1))
-    (eqb_tells pair.0 k))
+-- what a list says is one of its pairs
+pub says_in : (pairs : List (ℕ × ℕ)) (k found : ℕ) → Says pairs k found → IsIn pairs k found
+says_in [] k found says = absurd (none_is_not_some found says)
+says_in (pair ∷ pairs) k found says = ⊎_elim
+    (λ here. inl (here.1, same_word pair.1 found (sym (ap (λ b. if b then Some pair.1 else entry pairs k) here.0) ∙ says)))
+    (λ past. inr (says_in pairs k found (sym (ap (λ b. if b then Some pair.1 else entry pairs k) past.0) ∙ says)))
+    (eqb_tells pair.0 k)
+
+pub in-append : (pairs others : List (ℕ × ℕ)) (k found : ℕ) → IsIn (pairs ++ others) k found → IsIn pairs k found ⊎ IsIn others k found
+in-append [] others k found is = inr is
+in-append (pair ∷ pairs) others k found is = ⊎_elim
+    (λ here. inl (inl here))
+    (λ later. ⊎_elim (λ left. inl (inr left)) (λ right. inr right) (in-append pairs others k found later))
+    is
+
+-- the pairs below a bound are pairs
+pub in-below : (bound : ℕ) (pairs : List (ℕ × ℕ)) (k found : ℕ) → IsIn (below bound pairs) k found → (k < bound) × IsIn pairs k found
+in-below bound [] k found is = absurd is
+in-below bound (pair ∷ pairs) k found is =
+    let choose : Bool → List (ℕ × ℕ) = λ b. if b then pair ∷ below bound pairs else below bound pairs in ⊎_elim
+    (λ stays. ⊎_elim
+    (λ (here : (pair.0 ≡ k) × (pair.1 ≡ found)). (subst (λ m. m < bound) here.0 stays.1, inl here))
+    (λ (later : IsIn (below bound pairs) k found). let rest = in-below bound pairs k found later in (rest.0, inr rest.1))
+    (subst (λ b. IsIn (choose b) k found) stays.0 is))
+    (λ goes. let rest = in-below bound pairs k found (subst (λ b. IsIn (choose b) k found) goes.0 is) in (rest.0, inr rest.1))
     (lt_tells pair.0 bound)
+
+-- and so are the others
+pub in-from : (bound : ℕ) (pairs : List (ℕ × ℕ)) (k found : ℕ) → IsIn (from bound pairs) k found → (bound ≤ k) × IsIn pairs k found
+in-from bound [] k found is = absurd is
+in-from bound (pair ∷ pairs) k found is =
+    let choose : Bool → List (ℕ × ℕ) = λ b. if b then from bound pairs else pair ∷ from bound pairs in ⊎_elim
+    (λ goes. let rest = in-from bound pairs k found (subst (λ b. IsIn (choose b) k found) goes.0 is) in (rest.0, inr rest.1))
+    (λ stays. ⊎_elim
+    (λ (here : (pair.0 ≡ k) × (pair.1 ≡ found)). (subst (λ m. bound ≤ m) here.0 stays.1, inl here))
+    (λ (later : IsIn (from bound pairs) k found). let rest = in-from bound pairs k found later in (rest.0, inr rest.1))
+    (subst (λ b. IsIn (choose b) k found) stays.0 is))
+    (lt_tells pair.0 bound)
+
+-- and those of other indexes
+pub in-without : (index : ℕ) (pairs : List (ℕ × ℕ)) (k found : ℕ) → IsIn (without index pairs) k found → (k ≢ index) × IsIn pairs k found
+in-without index [] k found is = absurd is
+in-without index (pair ∷ pairs) k found is =
+    let choose : Bool → List (ℕ × ℕ) = λ b. if b then without index pairs else pair ∷ without index pairs in ⊎_elim
+    (λ goes. let rest = in-without index pairs k found (subst (λ b. IsIn (choose b) k found) goes.0 is) in (rest.0, inr rest.1))
+    (λ stays. ⊎_elim
+    (λ (here : (pair.0 ≡ k) × (pair.1 ≡ found)). ((λ same. stays.1 (here.0 ∙ same)), inl here))
+    (λ (later : IsIn (without index pairs) k found). let rest = in-without index pairs k found later in (rest.0, inr rest.1))
+    (subst (λ b. IsIn (choose b) k found) stays.0 is))
+    (eqb_tells pair.0 index)
+
+-- what is said of another index is said without those of this one
+pub says-without : (index : ℕ) (pairs : List (ℕ × ℕ)) (k found : ℕ) → k ≢ index → Says pairs k found → Says (without index pairs) k found
+says-without index [] k found differ says = says
+says-without index (pair ∷ pairs) k found differ says =
+    let choose : Bool → List (ℕ × ℕ) = λ b. if b then without index pairs else pair ∷ without index pairs in
+    let pick : Bool → Option ℕ → Option ℕ = λ b other. if b then Some pair.1 else other in ⊎_elim
+    (λ goes. ap (λ b. entry (choose b) k) goes.0 ∙ says-without index pairs k found differ (⊎_elim
+    (λ here. absurd (differ (sym here.1 ∙ goes.1)))
+    (λ past. sym (ap (λ b. pick b (entry pairs k)) past.0) ∙ says)
+    (eqb_tells pair.0 k)))
+    (λ stays. ap (λ b. entry (choose b) k) stays.0 ∙ ⊎_elim
+    (λ here. ap (λ b. pick b (entry (without index pairs) k)) here.0 ∙ (sym (ap (λ b. pick b (entry pairs k)) here.0) ∙ says))
+    (λ past. ap (λ b. pick b (entry (without index pairs) k)) past.0
+    ∙ says-without index pairs k found differ (sym (ap (λ b. pick b (entry pairs k)) past.0) ∙ says))
+    (eqb_tells pair.0 k))
+    (eqb_tells pair.0 index)
 
 -- a view that records more has read the same texts, and justifies the same numbers
 module _ (n : ℕ) (less more : View) (codes : IsKnownBy (entry less.codes) (entry more.codes)) (buckets : IsKnownBy (entry less.buckets) (entry more.buckets)) where

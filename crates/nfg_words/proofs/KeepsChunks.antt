@@ -3,14 +3,14 @@ use Rattle.std.proofs.Common.{◌≡◌, ◌≢◌, ℕ, ◌+◌, ◌*◌, ◌<�
 use mathlib.Core.Logic.{dite}
 use mathlib.Core.Option as maybe
 use native.Mathlib.Decide.{ℕ_discrete}
-use Rattle.nfg_words.proofs.Entries.{entry-cons, none_is_not_some, same_word}
+use Rattle.nfg_words.proofs.Entries.{in-without}
 use Rattle.nfg_words.proofs.KeepsViews.{noted}
 use Rattle.nfg_words.proofs.Moved.{Leaves, moved, records_on, lies_on, from_unspent_on}
 use Rattle.nfg_words.specs.Kinds.{Changes, OneMoves}
 use Rattle.nfg_words.specs.Layout.{chunk_count, chunk_word, code_word, start_of, stop_of}
 use Rattle.nfg_words.specs.Rule.{Views, AreApart, LiesInChunk, IsPublished, AreRecordsTrue, Rule}
-use Rattle.nfg_words.specs.Steps.{chunk_taken, chunk_found, codes_written}
-use Rattle.nfg_words.specs.View.{IsAmong}
+use Rattle.nfg_words.specs.Steps.{chunk_taken, chunk_found, codes_written, without}
+use Rattle.nfg_words.specs.View.{IsIn, IsAmong}
 use Rattle.nfg_words.specs.declared.view.View.{View}
 
 -- what lies inside a taken chunk is apart from a free one
@@ -61,7 +61,7 @@ module _ (n : ℕ) (word : ℕ → ℕ) (views : Views) (rule : Rule n word view
                 among;
             inserted = kept.inserted;
           };
-          writes = λ c written says. absurd (none_is_not_some written says);
+          writes = λ c written says. absurd says;
           in_chunk = λ some. record { chunk = chunk; below = fits; from = omega arith; to = omega arith; taken = changes.here };
           from_texts = from_unspent_on n word next taking_leaves (512 * chunk) (512 * chunk + 512)
               (λ place filled. apart_from_free n word chunk free (start_of (word place)) (stop_of (word place)) (rule.words_valid.in_chunk place filled));
@@ -119,12 +119,12 @@ module _ (n : ℕ) (word : ℕ → ℕ) (views : Views) (rule : Rule n word view
         (record {
           records = record { buckets = kept.buckets; codes = kept.codes; chunks = kept.chunks; inserted = kept.inserted };
           writes = λ k written says. ⊎_elim
-              (λ first. let same : k ≡ c = sym first.0 in
-              let is : value ≡ written = same_word value written (sym first.1 ∙ says) in
-              (subst (λ m. view.unspent ≤ m) first.0 low, subst (λ m. m < view.end) first.0 high, ap (λ m. next (code_word n m)) same ∙ (changes.here ∙ is)))
-              (λ past. let is = rule.writes_true pass view at k written (sym past.1 ∙ says) in
-              (is.0, is.1, elsewhere k (λ same. past.0 (sym same)) ∙ is.2))
-              (entry-cons c value view.written k);
+              (λ (first : (c ≡ k) × (value ≡ written)).
+              (subst (λ m. view.unspent ≤ m) first.0 low, subst (λ m. m < view.end) first.0 high, ap (λ m. next (code_word n m)) (sym first.0) ∙ (changes.here ∙ first.1)))
+              (λ (past : IsIn (without c view.written) k written). let other = in-without c view.written k written past in
+              let is = rule.writes_true pass view at k written other.1 in
+              (is.0, is.1, elsewhere k other.0 ∙ is.2))
+              says;
           in_chunk = λ some. lies_on n word next writing_leaves view.unspent view.end (rule.ranges_apart.in_chunk pass view at some);
           from_texts = from_unspent_on n word next writing_leaves view.unspent view.end (λ place filled. rule.ranges_apart.from_unspent place pass view filled at);
         })

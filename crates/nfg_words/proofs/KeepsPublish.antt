@@ -4,7 +4,7 @@ use Rattle.std.proofs.Math.Decide.{dec_lt}
 use mathlib.Core.Logic.{dite}
 use mathlib.Core.Option as maybe
 use native.Mathlib.Decide.{ℕ_discrete}
-use Rattle.nfg_words.proofs.Entries.{none_is_not_some, says-cons, says-first, cons_keeps, says-append, append_keeps_left, append_keeps_right, entry-below, says-from, places_more, justified_more}
+use Rattle.nfg_words.proofs.Entries.{says-first, cons_keeps, says_in, append_keeps_left, append_keeps_right, entry-below, in-append, in-below, in-from, places_more, justified_more}
 use Rattle.nfg_words.proofs.Moved.{assembled, bucket_below, bucket_beyond, flipped}
 use Rattle.nfg_words.proofs.ProbeTableLemmas.{IsSettled, after_tells, stays_settled, within_size}
 use Rattle.nfg_words.proofs.Reading.{IsKnownBy, text_named-more, text_named-within}
@@ -13,7 +13,7 @@ use Rattle.nfg_words.specs.Layout.{chunk_word, code_word, start_of, length_of, s
 use Rattle.nfg_words.specs.ProbeTable.{Insert, IsAllowed, after, probe_sequence}
 use Rattle.nfg_words.specs.Rule.{Views, AreApart, codes_now, bucket_now, texts_now, IsFilled, LiesInChunk, IsPublished, IsJustified, AreWordsValid, AreRecordsTrue, Rule}
 use Rattle.nfg_words.specs.Steps.{CanPublish, bucket_published, below}
-use Rattle.nfg_words.specs.View.{entry, Says, IsAmong, places_of}
+use Rattle.nfg_words.specs.View.{entry, Says, IsIn, IsAmong, places_of}
 use Rattle.nfg_words.specs.declared.view.View.{View}
 
 -- what a pass has read stands in the table
@@ -21,8 +21,8 @@ pub places_true : (n : ℕ) (word : ℕ → ℕ) (view : View) → AreRecordsTru
     → (place : ℕ) (text : List ℕ) → places_of view place ≡ Some text → texts_now n word place ≡ Some text
 places_true n word view records place text read =
     text_named-more (entry view.codes) (codes_now n word) (entry view.buckets place) (bucket_now n word place) text
-    (λ c found says. ap Some (records.codes c found says).0)
-    (λ found says. let is = records.buckets place found says in bucket_below n word place is.0 ∙ ap Some is.2)
+    (λ c found says. ap Some (records.codes c found (says_in view.codes c found says)).0)
+    (λ found says. let is = records.buckets place found (says_in view.buckets place found says) in bucket_below n word place is.0 ∙ ap Some is.2)
     read
 
 pub no_text : (text : List ℕ) → None ≡ Some text → ⊥
@@ -70,7 +70,7 @@ module _ (n : ℕ) (word next : ℕ → ℕ) (views later : Views) (rule : Rule 
   codes_stay = λ i c. Some (code_stays c i)
 
   written_now : IsKnownBy (entry view.written) (codes_now n next)
-  written_now c found says = ap Some (code_stays c ∙ (rule.writes_true pass view at c found says).2)
+  written_now c found says = ap Some (code_stays c ∙ (rule.writes_true pass view at c found (says_in view.written c found says)).2)
 
   text_here : texts_now n next place ≡ Some text
   text_here = ap (text_named (codes_now n next)) (bucket_below n next place within ∙ ap Some changes.here)
@@ -162,7 +162,7 @@ module _ (n : ℕ) (word next : ℕ → ℕ) (views later : Views) (rule : Rule 
         (λ other differ filled. lies_on (start_of (word other)) (stop_of (word other)) (rule.words_valid.in_chunk other filled));
     padded = each_filled (λ p b. length_of b % 2 ≡ 1 → second_code (next (code_word n (stop_of b - 1))) ≡ 0)
         (λ odd. let last = can.padded odd in
-        ap second_code (code_stays (stop_of bucket - 1) ∙ (rule.writes_true pass view at (stop_of bucket - 1) last.0 last.1).2) ∙ last.2)
+        ap second_code (code_stays (stop_of bucket - 1) ∙ (rule.writes_true pass view at (stop_of bucket - 1) last.0 (says_in view.written (stop_of bucket - 1) last.0 last.1)).2) ∙ last.2)
         (λ other differ filled odd. ap second_code (code_stays (stop_of (word other) - 1)) ∙ rule.words_valid.padded other filled odd);
   }
 
@@ -195,19 +195,16 @@ module _ (n : ℕ) (word next : ℕ → ℕ) (views later : Views) (rule : Rule 
     inserted = are.inserted;
   }
 
-  more_buckets : IsKnownBy (entry view.buckets) (entry seen.buckets)
-  more_buckets = cons_keeps place bucket view.buckets (λ found says. let is = records.buckets place found says in absurd (is.1 (sym is.2 ∙ free)))
+  pub more_buckets : IsKnownBy (entry view.buckets) (entry seen.buckets)
+  more_buckets = cons_keeps place bucket view.buckets (λ found says. let is = records.buckets place found (says_in view.buckets place found says) in absurd (is.1 (sym is.2 ∙ free)))
 
   -- a code word of the text is written
-  is_written : (c found : ℕ) → Says (below (stop_of bucket) view.written) c found → (c < stop_of bucket) × Says view.written c found
-  is_written c found says = ⊎_elim
-      (λ low. (low.0, sym low.1 ∙ says))
-      (λ high. absurd (none_is_not_some found (sym high.1 ∙ says)))
-      (entry-below (stop_of bucket) view.written c)
+  is_written : (c found : ℕ) → IsIn (below (stop_of bucket) view.written) c found → (c < stop_of bucket) × IsIn view.written c found
+  is_written c found is = in-below (stop_of bucket) view.written c found is
 
-  more_codes : IsKnownBy (entry view.codes) (entry seen.codes)
+  pub more_codes : IsKnownBy (entry view.codes) (entry seen.codes)
   more_codes = append_keeps_right (below (stop_of bucket) view.written) view.codes (λ c one other says also.
-      sym (rule.writes_true pass view at c one (is_written c one says).1).2 ∙ (records.codes c other also).0)
+      sym (rule.writes_true pass view at c one (is_written c one (says_in (below (stop_of bucket) view.written) c one says)).1).2 ∙ (records.codes c other (says_in view.codes c other also)).0)
 
   place_read : places_of seen place ≡ Some text
   place_read = ap (text_named (entry seen.codes)) (says-first place bucket view.buckets)
@@ -221,9 +218,9 @@ module _ (n : ℕ) (word next : ℕ → ℕ) (views later : Views) (rule : Rule 
   seen_records : AreRecordsTrue n next seen
   seen_records = let on = records_on view records in record {
     buckets = λ other found says. ⊎_elim
-        (λ new. (subst (λ (p : ℕ). p < n) new.0 within, (λ empty. some_bucket (new.1 ∙ empty)), ap next (sym new.0) ∙ (changes.here ∙ new.1)))
-        (λ old. on.buckets other found old)
-        (says-cons place bucket view.buckets other found says);
+        (λ (new : (place ≡ other) × (bucket ≡ found)). (subst (λ (p : ℕ). p < n) new.0 within, (λ empty. some_bucket (new.1 ∙ empty)), ap next (sym new.0) ∙ (changes.here ∙ new.1)))
+        (λ (old : IsIn view.buckets other found). on.buckets other found old)
+        says;
     codes = λ c found says. ⊎_elim
         (λ new. let is = is_written c found new in
         let its = rule.writes_true pass view at c found is.1 in
@@ -232,7 +229,7 @@ module _ (n : ℕ) (word next : ℕ → ℕ) (views later : Views) (rule : Rule 
         let from_start : start_of bucket ≤ c = omega arith in
         (code_stays c ∙ its.2, (place, filled_here, subst (λ (b : ℕ). start_of b ≤ c) (sym changes.here) from_start, subst (λ (b : ℕ). c < stop_of b) (sym changes.here) is.0)))
         (λ old. on.codes c found old)
-        (says-append (below (stop_of bucket) view.written) view.codes c found says);
+        (in-append (below (stop_of bucket) view.written) view.codes c found says);
     chunks = on.chunks;
     inserted = λ other among. ⊎_elim
         (λ (new : place ≡ other). (text, ap (places_of seen) (sym new) ∙ place_read))
@@ -247,7 +244,7 @@ module _ (n : ℕ) (word next : ℕ → ℕ) (views later : Views) (rule : Rule 
       valid texts_apart settled.probed settled.distinct
       (record {
         records = seen_records;
-        writes = λ c written says. let is = says-from (stop_of bucket) view.written c written says in
+        writes = λ c written says. let is = in-from (stop_of bucket) view.written c written says in
             let its = rule.writes_true pass view at c written is.1 in (is.0, its.1, code_stays c ∙ its.2);
         in_chunk = λ some. let own = own_chunk in
             let low = own.from in let begins = can.begins in let more = longer in

@@ -1,14 +1,14 @@
 -- Loads, splits and joins keep the rule: they change no word.
 use Rattle.std.proofs.Common.{◌≡◌, ℕ, zero, suc, ◌+◌, ◌<◌, ◌≤◌, List, ◌∷◌, ◌++◌, inl, inr, ⊎_elim, refl, sym, ap, ◌∙◌, subst, arith}
 use mathlib.Core.Option as maybe
-use Rattle.nfg_words.proofs.Entries.{says-cons, cons_keeps, says-append, append_keeps_left, append_keeps_right, among-append, none_is_not_some, places_more, justified_more}
+use Rattle.nfg_words.proofs.Entries.{cons_keeps, says_in, in-append, append_keeps_left, append_keeps_right, among-append, places_more, justified_more}
 use Rattle.nfg_words.proofs.Moved.{Leaves, moved}
 use Rattle.nfg_words.proofs.Reading.{IsKnownBy}
 use Rattle.nfg_words.specs.Kinds.{OneMoves}
 use Rattle.nfg_words.specs.Layout.{code_word, start_of, stop_of}
 use Rattle.nfg_words.specs.Rule.{Views, IsPublished, IsJustified, AreRecordsTrue, AreNumbersJustified, Rule}
 use Rattle.nfg_words.specs.Steps.{IsNamed, bucket_read, codes_read, number_read, split, split_off, joined}
-use Rattle.nfg_words.specs.View.{entry, Says, IsAmong, emptied}
+use Rattle.nfg_words.specs.View.{entry, IsIn, IsAmong, emptied}
 use Rattle.nfg_words.specs.declared.view.View.{View}
 
 suc_is_not_zero : (m : ℕ) → suc m ≡ 0 → ⊥
@@ -54,13 +54,13 @@ module _ (n : ℕ) (word : ℕ → ℕ) (views : Views) (rule : Rule n word view
   read_keeps place (suc less) below is moves =
       let seen : View = bucket_read view place (suc less) in
       let same : IsKnownBy (entry view.buckets) (entry seen.buckets) =
-      cons_keeps place (suc less) view.buckets (λ found says. sym (records.buckets place found says).2 ∙ is) in
+      cons_keeps place (suc less) view.buckets (λ found says. sym (records.buckets place found (says_in view.buckets place found says)).2 ∙ is) in
       noted ((place, suc less) ∷ view.buckets) view.codes view.chunks view.inserted view.numbered (view.steps + 1) view.forks view.meets
       (record {
         buckets = λ other found says. ⊎_elim
-            (λ new. (subst (λ m. m < n) new.0 below, (λ none. absurd (suc_is_not_zero less (new.1 ∙ none))), ap word (sym new.0) ∙ (is ∙ new.1)))
-            (λ old. records.buckets other found old)
-            (says-cons place (suc less) view.buckets other found says);
+            (λ (new : (place ≡ other) × (suc less ≡ found)). (subst (λ m. m < n) new.0 below, (λ none. absurd (suc_is_not_zero less (new.1 ∙ none))), ap word (sym new.0) ∙ (is ∙ new.1)))
+            (λ (old : IsIn view.buckets other found). records.buckets other found old)
+            says;
         codes = records.codes;
         chunks = records.chunks;
         inserted = λ other among. let is_read = records.inserted other among in
@@ -72,18 +72,18 @@ module _ (n : ℕ) (word : ℕ → ℕ) (views : Views) (rule : Rule n word view
   -- a code word that a recorded bucket word names is published
   pub published_by : (c : ℕ) → IsNamed view c → IsPublished n word c
   published_by c named =
-      let is = records.buckets named.0 named.1 named.2 in
+      let is = records.buckets named.0 named.1 (says_in view.buckets named.0 named.1 named.2) in
       (named.0, (is.0, λ empty. is.1 (sym is.2 ∙ empty)), subst (λ b. start_of b ≤ c) (sym is.2) named.3, subst (λ b. c < stop_of b) (sym is.2) named.4)
 
   -- the records after ReadCodes
   more_codes : (c found : ℕ) → word (code_word n c) ≡ found → IsKnownBy (entry view.codes) (entry ((c, found) ∷ view.codes))
-  more_codes c found is = cons_keeps c found view.codes (λ old says. sym (records.codes c old says).0 ∙ is)
+  more_codes c found is = cons_keeps c found view.codes (λ old says. sym (records.codes c old (says_in view.codes c old says)).0 ∙ is)
 
-  codes_true : (c found : ℕ) → IsNamed view c → word (code_word n c) ≡ found → (k old : ℕ) → Says ((c, found) ∷ view.codes) k old → (word (code_word n k) ≡ old) × IsPublished n word k
+  codes_true : (c found : ℕ) → IsNamed view c → word (code_word n c) ≡ found → (k old : ℕ) → IsIn ((c, found) ∷ view.codes) k old → (word (code_word n k) ≡ old) × IsPublished n word k
   codes_true c found named is k old says = ⊎_elim
-      (λ new. subst (λ (pair : ℕ × ℕ). (word (code_word n pair.0) ≡ pair.1) × IsPublished n word pair.0) (λ i. (new.0 i, new.1 i)) (is, published_by c named))
-      (λ was. records.codes k old was)
-      (says-cons c found view.codes k old says)
+      (λ (new : (c ≡ k) × (found ≡ old)). subst (λ (pair : ℕ × ℕ). (word (code_word n pair.0) ≡ pair.1) × IsPublished n word pair.0) (λ i. (new.0 i, new.1 i)) (is, published_by c named))
+      (λ (was : IsIn view.codes k old). records.codes k old was)
+      says
 
   -- ReadCodes
   pub codes_read_keeps : (c found : ℕ) → IsNamed view c → word (code_word n c) ≡ found → OneMoves views later pass (codes_read view c found) → Rule n word later
@@ -130,7 +130,7 @@ module _ (n : ℕ) (word : ℕ → ℕ) (views : Views) (rule : Rule n word view
   split_off_keeps new_pass moves = moved n word word views later rule new_pass (split_off view) moves (stays n word views rule) (λ other its c written differ was says. refl)
       (record {
         records = record { buckets = records.buckets; codes = records.codes; chunks = records.chunks; inserted = λ place among. absurd among };
-        writes = λ c written says. absurd (none_is_not_some written says);
+        writes = λ c written says. absurd says;
         in_chunk = λ some. absurd (omega arith);
         from_texts = λ place filled c low high other_low other_high. absurd (omega arith);
       })
@@ -145,14 +145,14 @@ module _ (n : ℕ) (word : ℕ → ℕ) (views : Views) (rule : Rule n word view
       let buckets_left : IsKnownBy (entry view.buckets) (entry seen.buckets) = append_keeps_left view.buckets other_view.buckets in
       let codes_left : IsKnownBy (entry view.codes) (entry seen.codes) = append_keeps_left view.codes other_view.codes in
       let buckets_right : IsKnownBy (entry other_view.buckets) (entry seen.buckets) = append_keeps_right view.buckets other_view.buckets
-      (λ k one two says also. sym (records.buckets k one says).2 ∙ (others.buckets k two also).2) in
+      (λ k one two says also. sym (records.buckets k one (says_in view.buckets k one says)).2 ∙ (others.buckets k two (says_in other_view.buckets k two also)).2) in
       let codes_right : IsKnownBy (entry other_view.codes) (entry seen.codes) = append_keeps_right view.codes other_view.codes
-      (λ k one two says also. sym (records.codes k one says).0 ∙ (others.codes k two also).0) in
+      (λ k one two says also. sym (records.codes k one (says_in view.codes k one says)).0 ∙ (others.codes k two (says_in other_view.codes k two also)).0) in
       noted (view.buckets ++ other_view.buckets) (view.codes ++ other_view.codes) (view.chunks ++ other_view.chunks) (view.inserted ++ other_view.inserted) (view.numbered ++ other_view.numbered)
       view.steps view.forks (view.meets + other_view.meets + 1)
       (record {
-        buckets = λ place found says. ⊎_elim (λ left. records.buckets place found left) (λ right. others.buckets place found right) (says-append view.buckets other_view.buckets place found says);
-        codes = λ c found says. ⊎_elim (λ left. records.codes c found left) (λ right. others.codes c found right) (says-append view.codes other_view.codes c found says);
+        buckets = λ place found says. ⊎_elim (λ left. records.buckets place found left) (λ right. others.buckets place found right) (in-append view.buckets other_view.buckets place found says);
+        codes = λ c found says. ⊎_elim (λ left. records.codes c found left) (λ right. others.codes c found right) (in-append view.codes other_view.codes c found says);
         chunks = λ chunk among. ⊎_elim (λ left. records.chunks chunk left) (λ right. others.chunks chunk right) (among-append view.chunks other_view.chunks chunk among);
         inserted = λ place among. ⊎_elim
             (λ left. let is_read = records.inserted place left in (is_read.0, places_more n view seen codes_left buckets_left place is_read.0 is_read.1))
@@ -170,12 +170,12 @@ pub emptied_keeps : (n : ℕ) (word : ℕ → ℕ) (views later : Views) (pass :
 emptied_keeps n word views later pass rule moves = moved n word word views later rule pass emptied moves (stays n word views rule) (λ other its c written differ was says. refl)
     (record {
       records = record {
-        buckets = λ place found says. absurd (none_is_not_some found says);
-        codes = λ c found says. absurd (none_is_not_some found says);
+        buckets = λ place found says. absurd says;
+        codes = λ c found says. absurd says;
         chunks = λ chunk among. absurd among;
         inserted = λ place among. absurd among;
       };
-      writes = λ c written says. absurd (none_is_not_some written says);
+      writes = λ c written says. absurd says;
       in_chunk = λ some. absurd (omega arith);
       from_texts = λ place filled c low high other_low other_high. absurd (omega arith);
     })

@@ -10,7 +10,7 @@ use Rattle.nfg_words.specs.Layout.{chunk_count, chunk_word, code_word, start_of,
 use Rattle.nfg_words.specs.ProbeTable.{probe_sequence}
 use Rattle.nfg_words.specs.Rule.{Views, AreApart, codes_now, bucket_now, texts_now, IsFilled, LiesInChunk, IsPublished, AreWordsValid, AreRangesApart, IsProbedBefore, AreRecordsTrue, AreWritesTrue, AreNumbersJustified, Rule}
 use Rattle.nfg_words.specs.Kinds.{OneMoves}
-use Rattle.nfg_words.specs.View.{Says, emptied}
+use Rattle.nfg_words.specs.View.{IsIn, emptied}
 use Rattle.nfg_words.specs.declared.view.View.{View}
 
 pub bucket_below : (n : ℕ) (word : ℕ → ℕ) (place : ℕ) → place < n → bucket_now n word place ≡ Some (word place)
@@ -170,7 +170,7 @@ module _ (n : ℕ) (word next : ℕ → ℕ) (views later : Views) (rule : Rule 
 
   -- the same where the step leaves the texts, and no other pass has written a code word that it changes
   pub moved : Leaves n word next
-      → ((other : ℕ) (its : View) (c written : ℕ) → other ≢ pass → views other ≡ maybe.some its → Says its.written c written → next (code_word n c) ≡ word (code_word n c))
+      → ((other : ℕ) (its : View) (c written : ℕ) → other ≢ pass → views other ≡ maybe.some its → IsIn its.written c written → next (code_word n c) ≡ word (code_word n c))
       → Stands n next view
       → ((other : ℕ) (its : View) → other ≢ pass → views other ≡ maybe.some its → AreApart view.unspent view.end its.unspent its.end)
       → AreNumbersJustified n view → (view.size ≡ n) ⊎ (view ≡ emptied)

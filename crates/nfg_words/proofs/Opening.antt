@@ -5,7 +5,6 @@ use mathlib.Core.Logic.{dite}
 use mathlib.Core.Option as maybe
 use Rattle.nfg_syn.specs.Known.{nothing}
 use Rattle.nfg_syn.specs.KnownLaws.{same_text}
-use Rattle.nfg_words.proofs.Entries.{none_is_not_some}
 use Rattle.nfg_words.proofs.KeepsPublish.{places_true, no_text}
 use Rattle.nfg_words.proofs.Moved.{bucket_below, bucket_beyond}
 use Rattle.nfg_words.specs.Layout.{chunk_word, text_named}
@@ -44,12 +43,12 @@ module _ (n : ℕ) (word : ℕ → ℕ) (zeros : (index : ℕ) → word index �
     probed_before = λ place text holds. absurd (no_text text (sym (text_is_none place) ∙ holds));
     texts_distinct = λ a b text at_a at_b. absurd (no_text text (sym (text_is_none a) ∙ at_a));
     records_true = λ pass view at. subst (AreRecordsTrue n word) (sym (fresh pass view at)) (record {
-      buckets = λ place found says. absurd (none_is_not_some found says);
-      codes = λ c found says. absurd (none_is_not_some found says);
+      buckets = λ place found says. absurd says;
+      codes = λ c found says. absurd says;
       chunks = λ chunk among. absurd among;
       inserted = λ place among. absurd among;
     });
-    writes_true = λ pass view at. subst (AreWritesTrue n word) (sym (fresh pass view at)) (λ c written says. absurd (none_is_not_some written says));
+    writes_true = λ pass view at. subst (AreWritesTrue n word) (sym (fresh pass view at)) (λ c written says. absurd says);
     numbers_justified = λ pass view at. subst (AreNumbersJustified n) (sym (fresh pass view at)) (λ place among. absurd among);
     one_size = λ pass view at. inl (ap (λ (v : View). v.size) (fresh pass view at));
   }

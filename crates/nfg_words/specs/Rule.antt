@@ -4,7 +4,7 @@ use mathlib.Core.Option as maybe
 use Rattle.nfg_syn.specs.Known.{Texts, IsOneToOne}
 use Rattle.nfg_words.specs.Layout.{chunk_count, chunk_word, code_word, start_of, length_of, stop_of, second_code, text_named}
 use Rattle.nfg_words.specs.ProbeTable.{IsStorable, probe_sequence}
-use Rattle.nfg_words.specs.View.{Says, IsAmong, places_of, emptied}
+use Rattle.nfg_words.specs.View.{IsIn, IsAmong, places_of, emptied}
 use Rattle.nfg_words.specs.declared.view.View.{View}
 
 -- the view of each pass, by the number that the table gives it
@@ -76,14 +76,14 @@ module _ (n : ℕ) (word : ℕ → ℕ) where
 
   -- what a pass has recorded is so, and the code words that it has recorded are published
   pub record AreRecordsTrue (view : View) : Type 0 where
-    pub buckets : (place found : ℕ) → Says view.buckets place found → (place < n) × (found ≢ 0) × (word place ≡ found)
-    pub codes : (c found : ℕ) → Says view.codes c found → (word (code_word n c) ≡ found) × IsPublished c
+    pub buckets : (place found : ℕ) → IsIn view.buckets place found → (place < n) × (found ≢ 0) × (word place ≡ found)
+    pub codes : (c found : ℕ) → IsIn view.codes c found → (word (code_word n c) ≡ found) × IsPublished c
     pub chunks : (chunk : ℕ) → IsAmong view.chunks chunk → (chunk < chunk_count n) × (word (chunk_word n chunk) ≡ 1)
     pub inserted : (place : ℕ) → IsAmong view.inserted place → (text : List ℕ) × (places_of view place ≡ Some text)
 
   -- what a pass has written stands in its unspent code words
   abbrev pub AreWritesTrue : View → Type 0
-  AreWritesTrue view = (c written : ℕ) → Says view.written c written
+  AreWritesTrue view = (c written : ℕ) → IsIn view.written c written
       → (view.unspent ≤ c) × (c < view.end) × (word (code_word n c) ≡ written)
 
 -- The pass has seen that no other place can hold the text at this one: each place before it on the text's probe sequence

@@ -1,5 +1,5 @@
 -- What each kind of step makes of the view of the pass that takes it (this project's own).
-use Rattle.std.specs.Prelude.{◌≡◌, ◌≢◌, ℕ, zero, suc, ◌+◌, ◌-◌, ◌*◌, ◌%◌, ◌<◌, ◌≤◌, nat_lt, List, [], ◌∷◌, ◌++◌, Some, false, if◌then◌else◌}
+use Rattle.std.specs.Prelude.{◌≡◌, ◌≢◌, ℕ, zero, suc, ◌+◌, ◌-◌, ◌*◌, ◌%◌, ◌<◌, ◌≤◌, ◌==◌, nat_lt, List, [], ◌∷◌, ◌++◌, Some, false, if◌then◌else◌}
 use Rattle.nfg_words.specs.Layout.{start_of, length_of, stop_of, second_code, text_named}
 use Rattle.nfg_words.specs.ProbeTable.{IsStorable, probe_sequence}
 use Rattle.nfg_words.specs.View.{entry, Says, places_of}
@@ -20,9 +20,14 @@ chunk_taken view chunk = record view {
 abbrev pub chunk_found : View → ℕ → View
 chunk_found view chunk = record view { chunks = chunk ∷ view.chunks; steps = view.steps + 1 }
 
--- WriteCodes, a store of one of its own code words
+-- the pairs of other indexes
+abbrev pub without : ℕ → List (ℕ × ℕ) → List (ℕ × ℕ)
+without index [] = []
+without index (pair ∷ pairs) = if pair.0 == index then without index pairs else pair ∷ without index pairs
+
+-- WriteCodes, a store of one of its own code words, in place of what it has written there before
 abbrev pub codes_written : View → ℕ → ℕ → View
-codes_written view c written = record view { written = (c, written) ∷ view.written; steps = view.steps + 1 }
+codes_written view c written = record view { written = (c, written) ∷ without c view.written; steps = view.steps + 1 }
 
 -- ReadBucket, a load of a bucket word: one that is not 0 is recorded
 abbrev pub bucket_read : View → ℕ → ℕ → View

@@ -13,6 +13,15 @@ entry (pair ∷ pairs) index = if pair.0 == index then Some pair.1 else entry pa
 abbrev pub Says : List (ℕ × ℕ) → ℕ → ℕ → Type 0
 Says pairs index word = entry pairs index ≡ Some word
 
+-- the pair is one of the list's, though an earlier one of its index may count before it
+abbrev pub IsIn : List (ℕ × ℕ) → ℕ → ℕ → Type 0
+IsIn [] index word = ⊥
+IsIn (pair ∷ pairs) index word = ((pair.0 ≡ index) × (pair.1 ≡ word)) ⊎ IsIn pairs index word
+
+-- what the first list says of an index, the second says too
+abbrev pub SaysAll : List (ℕ × ℕ) → List (ℕ × ℕ) → Type 0
+SaysAll pairs others = (index word : ℕ) → Says pairs index word → Says others index word
+
 -- the number is among the numbers
 abbrev pub IsAmong : List ℕ → ℕ → Type 0
 IsAmong [] number = ⊥
@@ -21,6 +30,12 @@ IsAmong (first ∷ rest) number = (first ≡ number) ⊎ IsAmong rest number
 -- the texts at the places that the pass has read or written in full
 abbrev pub places_of : View → Texts
 places_of view place = text_named (entry view.codes) (entry view.buckets place)
+
+-- the second view records at least the bucket words, code words and taken chunks that the first does
+pub record Grows (old new : View) : Type 0 where
+  pub buckets : SaysAll old.buckets new.buckets
+  pub codes : SaysAll old.codes new.codes
+  pub chunks : (chunk : ℕ) → IsAmong old.chunks chunk → IsAmong new.chunks chunk
 
 -- the view of the pass that comes with a table of n buckets
 abbrev pub fresh_view : ℕ → View

@@ -3,6 +3,8 @@
 
 pub mod laws;
 pub mod layout;
+pub mod loads;
+pub mod steps;
 #[cfg(test)]
 mod tests;
 pub mod view;

@@ -1,6 +1,12 @@
 //! Worked rows of the layout and of probe sequences.
+ghost use Rattle.std.specs.Prelude.{◌≡◌, ◌<◌};
+
+use crate::steps::Steps;
 use crate::{layout, words};
-use std::alloc::AllocError;
+use std::alloc::{AllocError, Global};
+use std::marker::Brand;
+use std::process::Abort;
+use std::sync::ledger::{Blank, Ledger};
 
 #[test]
 fn hashes_are_those_of_the_worked_rows(rt: HostRuntime) {
@@ -40,14 +46,25 @@ fn bucket_words_and_code_words_are_read_back(rt: HostRuntime) {
     assert_eq!(rt; layout::second_code(codes), 0x323);
 }
 
+// One pass takes a chunk, and another finds it taken, also after they are joined.
+fn take_twice<L: Ledger>(rt: &impl Abort, alloc: Global, blank: Blank) -> Result<(), AllocError>
+    requires name { blank.name ≡ L.name }
+    requires parts { blank.parts ≡ L.parts }
+    requires some { 0 < blank.parts }
+{
+    let mut steps = Steps::<L>::new(blank);
+    let (words, mut first) = words::new_words(alloc, 16)?;
+    let mut second = words::split_view(&words, &mut first, 16);
+    assert!(rt; words::take_chunk(&words, &mut first, 16, 3, &mut steps));
+    assert!(rt; !words::take_chunk(&words, &mut second, 16, 3, &mut steps));
+    let bucket = words::read_bucket(&words, &mut second, 16, 0, &mut steps);
+    assert_eq!(rt; bucket, 0);
+    words::join_views(&words, &mut first, second, 16);
+    assert!(rt; !words::take_chunk(&words, &mut first, 16, 3, &mut steps));
+    Ok(())
+}
+
 #[test]
 fn one_pass_takes_a_chunk_and_another_finds_it(rt: HostRuntime) -> Result<(), AllocError> {
-    let (words, mut first) = words::new_words(rt.alloc(), 16)?;
-    let mut second = words::split_view(&words, &mut first, 16);
-    assert!(rt; words::take_chunk(&words, &mut first, 16, 3));
-    assert!(rt; !words::take_chunk(&words, &mut second, 16, 3));
-    assert_eq!(rt; words::read_bucket(&words, &mut second, 16, 0), 0);
-    words::join_views(&words, &mut first, second, 16);
-    assert!(rt; !words::take_chunk(&words, &mut first, 16, 3));
-    Ok(())
+    take_twice::<Brand>(&rt, rt.alloc(), Blank::new(1))
 }

@@ -1,14 +1,16 @@
 //! The words of a table under their rule, and the steps of a pass that write them.
-ghost use Rattle.std.specs.Prelude.{◌≡◌, ◌≢◌, ◌*◌, ◌<◌, ◌≤◌, ℕ, List, [], true, false, IfOk};
+ghost use Rattle.std.specs.Prelude.{◌≡◌, ◌≢◌, ◌+◌, ◌*◌, ◌<◌, ◌≤◌, ℕ, List, [], true, false, IfOk};
 ghost use Rattle.nfg_words.specs.Layout.{chunk_count};
 ghost use Rattle.nfg_words.specs.Steps.{CanPublish, bucket_read, bucket_published, chunk_taken, chunk_found, codes_written, split, split_off, joined};
-ghost use Rattle.nfg_words.specs.View.{fresh_view};
+ghost use Rattle.nfg_words.specs.View.{Grows, fresh_view};
 ghost use Rattle.nfg_words.specs.Words.{IsSeatOf};
 
 use crate::layout;
+use crate::steps::Steps;
 use crate::view::View;
 use atomic_table::{Join, Play, Seat, Split, Table, TableRule};
 use std::alloc::{AllocError, Global};
+use std::sync::ledger::Ledger;
 
 /// The rule of the words. The key of a table is the number of its buckets.
 pub struct WordsRule;
@@ -81,6 +83,14 @@ impl Play<u64, View> for PublishBucket {
     ghost then = { λ step before found later. TellsPublishing step before found later };
 }
 
+struct Sight;
+
+impl Play<u64, View> for Sight {
+    ghost use Rattle.nfg_words.specs.Words.{TellsSight};
+
+    ghost then = { λ step before found later. TellsSight step before found later };
+}
+
 /// The words of a table of `n` buckets, all 0, and the first pass, which knows nothing.
 pub fn new_words(alloc: Global, n: usize) -> Result<(Words, Holder), AllocError>
     requires { n ≤ 1048576 }
@@ -90,11 +100,18 @@ pub fn new_words(alloc: Global, n: usize) -> Result<(Words, Holder), AllocError>
 {
     let zeros = Vec::from_elem(alloc, 0u64, layout::word_count(n))?;
     let key = n as u64;
-    Table::of_words(alloc, zeros.as_slice(), &key)
+    let (words, holder): (Words, Holder) = Table::of_words(alloc, zeros.as_slice(), &key)?;
+    Ok((words, holder))
 }
 
 /// Takes a chunk, or answers that it was taken.
-pub fn take_chunk(words: &Words, holder: &mut Holder, n: usize, chunk: usize) -> bool
+pub fn take_chunk<L: Ledger>(
+    words: &Words,
+    holder: &mut Holder,
+    n: usize,
+    chunk: usize,
+    steps: &mut Steps<L>,
+) -> bool
     requires table { IsSeatOf words.now.shared.table_id n holder.old }
     requires key { words.now.shared.key ≡ n }
     requires limit { n ≤ 1048576 }
@@ -102,7 +119,10 @@ pub fn take_chunk(words: &Words, holder: &mut Holder, n: usize, chunk: usize) ->
     ensures table { IsSeatOf words.now.shared.table_id n holder.new }
     ensures taken { result ≡ true → holder.new.me.0 ≡ chunk_taken holder.old.me.0 chunk }
     ensures found { result ≡ false → holder.new.me.0 ≡ chunk_found holder.old.me.0 chunk }
+    ensures grows { Grows holder.old.me.0 holder.new.me.0 }
+    ensures counted { steps.new ≡ steps.old + 1 }
 {
+    steps.tick();
     words
         .shared
         .compare_exchange::<TakeChunk>(holder, layout::chunk_word(n, chunk), 0, 1)
@@ -110,7 +130,14 @@ pub fn take_chunk(words: &Words, holder: &mut Holder, n: usize, chunk: usize) ->
 }
 
 /// Writes the code word `c`, which is one of the pass's unspent ones.
-pub fn write_codes(words: &Words, holder: &mut Holder, n: usize, c: usize, codes: u64)
+pub fn write_codes<L: Ledger>(
+    words: &Words,
+    holder: &mut Holder,
+    n: usize,
+    c: usize,
+    codes: u64,
+    steps: &mut Steps<L>,
+)
     requires table { IsSeatOf words.now.shared.table_id n holder.old }
     requires key { words.now.shared.key ≡ n }
     requires limit { n ≤ 1048576 }
@@ -118,31 +145,44 @@ pub fn write_codes(words: &Words, holder: &mut Holder, n: usize, c: usize, codes
     requires unspent { (holder.old.me.0.unspent ≤ c) × (c < holder.old.me.0.end) }
     ensures table { IsSeatOf words.now.shared.table_id n holder.new }
     ensures written { holder.new.me.0 ≡ codes_written holder.old.me.0 c codes }
+    ensures grows { Grows holder.old.me.0 holder.new.me.0 }
+    ensures counted { steps.new ≡ steps.old + 1 }
 {
+    steps.tick();
     words
         .shared
         .store::<WriteCodes>(holder, layout::code_word(n, c), codes);
 }
 
 /// Reads the bucket word of a place.
-pub fn read_bucket(words: &Words, holder: &mut Holder, n: usize, place: usize) -> u64
+pub fn read_bucket<L: Ledger>(
+    words: &Words,
+    holder: &mut Holder,
+    n: usize,
+    place: usize,
+    steps: &mut Steps<L>,
+) -> u64
     requires table { IsSeatOf words.now.shared.table_id n holder.old }
     requires key { words.now.shared.key ≡ n }
     requires place { place < n }
     ensures table { IsSeatOf words.now.shared.table_id n holder.new }
     ensures read { holder.new.me.0 ≡ bucket_read holder.old.me.0 place result }
+    ensures grows { Grows holder.old.me.0 holder.new.me.0 }
+    ensures counted { steps.new ≡ steps.old + 1 }
 {
+    steps.tick();
     words.shared.load::<ReadBucket>(holder, place)
 }
 
 /// Puts a text that the pass has written at a place, where the bucket is empty. Returns the bucket word that was found,
 /// which is 0 where the text was put, and else that of the text that stands there.
-pub fn publish_bucket(
+pub fn publish_bucket<L: Ledger>(
     words: &Words,
     holder: &mut Holder,
     n: usize,
     place: usize,
     bucket: u64,
+    steps: &mut Steps<L>,
 ) -> u64
     requires table { IsSeatOf words.now.shared.table_id n holder.old }
     requires key { words.now.shared.key ≡ n }
@@ -151,7 +191,10 @@ pub fn publish_bucket(
     ensures table { IsSeatOf words.now.shared.table_id n holder.new }
     ensures published { result ≡ 0 → holder.new.me.0 ≡ bucket_published holder.old.me.0 place bucket }
     ensures read { result ≢ 0 → holder.new.me.0 ≡ bucket_read holder.old.me.0 place result }
+    ensures grows { Grows holder.old.me.0 holder.new.me.0 }
+    ensures counted { steps.new ≡ steps.old + 1 }
 {
+    steps.tick();
     words
         .shared
         .compare_exchange::<PublishBucket>(holder, place, 0, bucket)
@@ -169,7 +212,7 @@ pub fn split_view(words: &Words, holder: &mut Holder, n: usize) -> Holder
     words.shared.split_seat::<SplitView>(holder)
 }
 
-/// Joins another pass to this one.
+/// Joins another pass to this one. It loads a word besides, by which what both knew is seen to stand at one moment.
 pub fn join_views(words: &Words, holder: &mut Holder, other: Holder, n: usize)
     requires table { IsSeatOf words.now.shared.table_id n holder.old }
     requires other_table { IsSeatOf words.now.shared.table_id n other }
@@ -178,4 +221,5 @@ pub fn join_views(words: &Words, holder: &mut Holder, other: Holder, n: usize)
     ensures joined { holder.new.me.0 ≡ joined holder.old.me.0 other.me.0 }
 {
     words.shared.join_seat::<JoinViews>(holder, other);
+    words.shared.load::<Sight>(holder, 0);
 }

@@ -1,10 +1,9 @@
-use Rattle.std.proofs.Common.{ap, ◌∙◌, arith}
-use Rattle.nfg_words.proofs.Asks.{read_asks, bucket_read_size}
-use Rattle.nfg_words.specs.declared.view.View.{View}
+use Rattle.std.proofs.Common.{◌∙◌, arith}
+use Rattle.nfg_words.proofs.Asks.{read_asks, seat_stays}
 use Rattle.nfg_words.proofs.words.read_bucket.Goals as goal
 
 pub load-requires : goal.load-requires
-load-requires c =
+load-requires g c =
     let table = c.requires.table in
     let words = table.words in
     let below = c.requires.place in
@@ -12,7 +11,4 @@ load-requires c =
     (table.table, omega arith, read_asks c.args.n shared.key shared.table_id.slots c.args.holder.now.id c.args.place c.args.holder.now.me c.requires.key table.size below)
 
 pub returns-clause-table : goal.returns-clause-table
-returns-clause-table c =
-    let table = c.requires.table in
-    let done = c.load.ensures in
-    record { table = done.0 ∙ table.table; words = table.words; size = ap (λ (v : View). v.size) done.2.0 ∙ (bucket_read_size c.args.holder.now.me.0 c.args.place c.load.result ∙ table.size); no_slots = done.2.1 ∙ table.no_slots }
+returns-clause-table g c = seat_stays _ c.args.n c.args.holder.now c.load.new.seat c.requires.table c.load.ensures.0 c.load.ensures.2.1
