@@ -12,7 +12,7 @@ use Rattle.atomic_table.specs.Seated.{TableId}
 use Rattle.atomic_table.specs.Table.{State, Me, step, keeps, Allows, Splits, Joins}
 use Rattle.atomic_table.specs.declared.shared.Seat.{Seat}
 use Rattle.nfg_words.proofs.KeepsChunks.{chunk_taken_keeps, chunk_found_keeps, codes_written_keeps}
-use Rattle.nfg_words.proofs.Entries.{cons_keeps, says_in}
+use Rattle.nfg_words.proofs.Entries.{cons_keeps}
 use Rattle.nfg_words.proofs.KeepsPublish.{bucket_published_keeps, more_buckets, more_codes}
 use Rattle.nfg_words.proofs.KeepsViews.{read_keeps, codes_read_keeps, number_read_keeps, split_keeps, split_off_keeps, joined_keeps, emptied_keeps}
 use Rattle.nfg_words.proofs.Opening.{opening_rule}
@@ -20,9 +20,10 @@ use Rattle.nfg_words.specs.Kinds.{Changes, OneMoves}
 use Rattle.nfg_words.specs.Rule.{Rule, AreRecordsTrue, IsJustified}
 use Rattle.nfg_words.specs.Layout.{chunk_count, chunk_word, code_word, word_count, stop_of}
 use Rattle.nfg_words.specs.Steps.{CanPublish, IsNamed, bucket_read, bucket_published, chunk_taken, chunk_found, codes_written, codes_read, number_read, split, split_off, joined}
-use Rattle.nfg_words.specs.View.{Grows, IsAmong, emptied, entry, fresh_view}
+use Rattle.nfg_words.specs.View.{Grows, SaysAll, IsAmong, emptied, entry, fresh_view}
 use Rattle.nfg_words.specs.Words.{IsKept, IsSeatOf, IsSound, Stays, TellsBucket, TellsChunk, TellsCodes, TellsNumber, TellsPublishing, TellsSight, TellsWriting}
 use Rattle.nfg_words.specs.declared.view.View.{View}
+use Rattle.nfg_words.specs.SoundLaws.{same_word, says_in}
 
 abbrev word_at : List ℕ → ℕ → ℕ
 word_at words index = get_or words index 0
@@ -297,7 +298,7 @@ codes_asks n key slots id c word me same is_at size named = subst (λ (pair : �
 
 -- a load of a code word that gives the number of a place, where it finds the word that is wanted
 pub number_asks : (n key slots id c word place told_place wanted told : ℕ) (me : Me ℕ View) → key ≡ n → word ≡ code_word n c → told_place ≡ place → told ≡ wanted → me.0.size ≡ n → IsNamed me.0 c
-    → IsJustified n (codes_read me.0 c wanted) place
+    → (SaysAll me.0.codes (codes_read me.0 c wanted).codes → IsJustified n (codes_read me.0 c wanted) place)
     → Allows (IsKept key) slots id me word (λ found. found) (TellsNumber told_place told (step slots word 0 0 maybe.none) me)
 number_asks n key slots id c word place told_place wanted told me same is_at same_place same_word size named justified =
     subst (λ (all : ℕ × ℕ × ℕ × ℕ). Allows (IsKept all.0) slots id me all.1 (λ found. found) (TellsNumber all.2 all.3 (step slots all.1 0 0 maybe.none) me))
@@ -309,8 +310,9 @@ number_asks n key slots id c word place told_place wanted told me same is_at sam
     dite (ℕ_discrete found wanted)
     (λ is.
     let seen : View = number_read me.0 c found place in
+    let grows = codes_grow n slots id me size state kept at c found seen refl refl refl refl in
     let rule = number_read_keeps n (word_at state.words) (get_elem? state.views) kept.1 id me.0 at size (get_elem? (set state.views id seen)) c found place named refl
-    (subst (λ w. IsJustified n (codes_read me.0 c w) place) (sym is) justified) (set_moves state.views id seen) in (
+    (subst (λ w. SaysAll me.0.codes (codes_read me.0 c w).codes → IsJustified n (codes_read me.0 c w) place) (sym is) justified grows.codes) (set_moves state.views id seen) in (
       seen,
       keeps,
       tt,
@@ -318,7 +320,7 @@ number_asks n key slots id c word place told_place wanted told me same is_at sam
       (
         (λ wanted_found. ap (λ (m : ℕ). number_read me.0 m found place) index),
         (λ other. absurd (other is)),
-        stays n id state state.words me seen size at (kept.0, rule) refl (codes_grow n slots id me size state kept at c found seen refl refl refl refl),
+        stays n id state state.words me seen size at (kept.0, rule) refl grows,
       ),
     ))
     (λ other.
@@ -347,25 +349,6 @@ sight_asks n key slots id word me same size = subst (λ (k : ℕ). Allows (IsKep
           (subst (λ (words : List ℕ). IsKept n record { words = words; homes = state.homes; views = state.views }) (sym (set-get_or state.words word 0)) kept),
       (refl, subst (λ m. IsSound m me.0) (sym size) (record { state = state; kept = kept; pass = id; at = at })),
     ))
-
--- what contracts may read off a view that is sound
-module _ (n : ℕ) (view : View) (sound : IsSound n view) where
-  abbrev its_word : ℕ → ℕ
-  its_word index = word_at sound.state.words index
-
-  abbrev its_rule : Rule n its_word (get_elem? sound.state.views)
-  its_rule = sound.kept.1
-
-  -- a code word that a recorded bucket word names is one of the table's
-  pub named_inside : (c : ℕ) → IsNamed view c → c < 512 * chunk_count n
-  named_inside c named =
-      let records = its_rule.records_true sound.pass view sound.at in
-      let is = records.buckets named.0 named.1 (says_in view.buckets named.0 named.1 named.2) in
-      let chunk = its_rule.words_valid.in_chunk named.0 (is.0, λ empty. is.1 (sym is.2 ∙ empty)) in
-      let low = chunk.below in
-      let high = chunk.to in
-      let under : c < stop_of (its_word named.0) = subst (λ b. c < stop_of b) (sym is.2) named.4 in
-      omega arith
 
 -- a split keeps both views sound
 pub split_sound : (n : ℕ) (view : View) → view.size ≡ n → IsSound n view → IsSound n (split view)

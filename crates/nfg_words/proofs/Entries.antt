@@ -3,17 +3,12 @@ use Rattle.std.proofs.Common.{◌≡◌, ◌≢◌, ℕ, ◌<◌, ◌≤◌, ◌
 use Rattle.std.proofs.Math.Decide.{dec_lt}
 use Rattle.std.proofs.lemmas.Bool.Decides.{eqb_tells, nat_tests}
 use mathlib.Core.Logic.{dite}
-use Rattle.nfg_words.proofs.Reading.{IsKnownBy, text_named-more}
+use Rattle.nfg_words.specs.Reading.{IsKnownBy, text_named-more}
 use Rattle.nfg_words.specs.View.{entry, Says, IsIn, IsAmong, places_of}
 use Rattle.nfg_words.specs.Rule.{IsJustified}
 use Rattle.nfg_words.specs.Steps.{below, from, without}
 use Rattle.nfg_words.specs.declared.view.View.{View}
-
-pub same_word : (a b : ℕ) → Some a ≡ Some b → a ≡ b
-same_word a b e = cc
-
-pub none_is_not_some : (word : ℕ) → None ≡ Some word → ⊥
-none_is_not_some word e = cc
+use Rattle.nfg_words.specs.SoundLaws.{none_is_not_some, same_word}
 
 pub entry-cons : (index word : ℕ) (pairs : List (ℕ × ℕ)) (k : ℕ)
     → ((index ≡ k) × (entry ((index, word) ∷ pairs) k ≡ Some word)) ⊎ ((index ≢ k) × (entry ((index, word) ∷ pairs) k ≡ entry pairs k))
@@ -112,14 +107,6 @@ entry-below bound (pair ∷ pairs) k =
     (λ high. inr (high.0, now ∙ high.1))
     rest)
     (lt_tells pair.0 bound)
-
--- what a list says is one of its pairs
-pub says_in : (pairs : List (ℕ × ℕ)) (k found : ℕ) → Says pairs k found → IsIn pairs k found
-says_in [] k found says = absurd (none_is_not_some found says)
-says_in (pair ∷ pairs) k found says = ⊎_elim
-    (λ here. inl (here.1, same_word pair.1 found (sym (ap (λ b. if b then Some pair.1 else entry pairs k) here.0) ∙ says)))
-    (λ past. inr (says_in pairs k found (sym (ap (λ b. if b then Some pair.1 else entry pairs k) past.0) ∙ says)))
-    (eqb_tells pair.0 k)
 
 pub in-append : (pairs others : List (ℕ × ℕ)) (k found : ℕ) → IsIn (pairs ++ others) k found → IsIn pairs k found ⊎ IsIn others k found
 in-append [] others k found is = inr is

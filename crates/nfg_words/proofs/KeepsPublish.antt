@@ -4,10 +4,10 @@ use Rattle.std.proofs.Math.Decide.{dec_lt}
 use mathlib.Core.Logic.{dite}
 use mathlib.Core.Option as maybe
 use native.Mathlib.Decide.{ℕ_discrete}
-use Rattle.nfg_words.proofs.Entries.{says-first, cons_keeps, says_in, append_keeps_left, append_keeps_right, entry-below, in-append, in-below, in-from, places_more, justified_more}
-use Rattle.nfg_words.proofs.Moved.{assembled, bucket_below, bucket_beyond, flipped}
+use Rattle.nfg_words.proofs.Entries.{says-first, cons_keeps, append_keeps_left, append_keeps_right, entry-below, in-append, in-below, in-from, places_more, justified_more}
+use Rattle.nfg_words.proofs.Moved.{assembled, flipped}
 use Rattle.nfg_words.proofs.ProbeTableLemmas.{IsSettled, after_tells, stays_settled, within_size}
-use Rattle.nfg_words.proofs.Reading.{IsKnownBy, text_named-more, text_named-within}
+use Rattle.nfg_words.specs.Reading.{IsKnownBy, text_named-more, text_named-within}
 use Rattle.nfg_words.specs.Kinds.{Changes, OneMoves}
 use Rattle.nfg_words.specs.Layout.{chunk_word, code_word, start_of, length_of, stop_of, second_code, text_named}
 use Rattle.nfg_words.specs.ProbeTable.{Insert, IsAllowed, after, probe_sequence}
@@ -15,18 +15,7 @@ use Rattle.nfg_words.specs.Rule.{Views, AreApart, codes_now, bucket_now, texts_n
 use Rattle.nfg_words.specs.Steps.{CanPublish, bucket_published, below}
 use Rattle.nfg_words.specs.View.{entry, Says, IsIn, IsAmong, places_of}
 use Rattle.nfg_words.specs.declared.view.View.{View}
-
--- what a pass has read stands in the table
-pub places_true : (n : ℕ) (word : ℕ → ℕ) (view : View) → AreRecordsTrue n word view
-    → (place : ℕ) (text : List ℕ) → places_of view place ≡ Some text → texts_now n word place ≡ Some text
-places_true n word view records place text read =
-    text_named-more (entry view.codes) (codes_now n word) (entry view.buckets place) (bucket_now n word place) text
-    (λ c found says. ap Some (records.codes c found (says_in view.codes c found says)).0)
-    (λ found says. let is = records.buckets place found (says_in view.buckets place found says) in bucket_below n word place is.0 ∙ ap Some is.2)
-    read
-
-pub no_text : (text : List ℕ) → None ≡ Some text → ⊥
-no_text text e = cc
+use Rattle.nfg_words.specs.SoundLaws.{bucket_below, bucket_beyond, no_text, places_true, says_in}
 
 -- the rule says of the texts what the machine keeps
 pub rule_is_settled : (n : ℕ) (word : ℕ → ℕ) (views : Views) → Rule n word views → IsSettled n (texts_now n word)

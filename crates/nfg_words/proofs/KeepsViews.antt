@@ -1,15 +1,16 @@
 -- Loads, splits and joins keep the rule: they change no word.
 use Rattle.std.proofs.Common.{◌≡◌, ℕ, zero, suc, ◌+◌, ◌<◌, ◌≤◌, List, ◌∷◌, ◌++◌, inl, inr, ⊎_elim, refl, sym, ap, ◌∙◌, subst, arith}
 use mathlib.Core.Option as maybe
-use Rattle.nfg_words.proofs.Entries.{cons_keeps, says_in, in-append, append_keeps_left, append_keeps_right, among-append, places_more, justified_more}
+use Rattle.nfg_words.proofs.Entries.{cons_keeps, in-append, append_keeps_left, append_keeps_right, among-append, places_more, justified_more}
 use Rattle.nfg_words.proofs.Moved.{Leaves, moved}
-use Rattle.nfg_words.proofs.Reading.{IsKnownBy}
+use Rattle.nfg_words.specs.Reading.{IsKnownBy}
 use Rattle.nfg_words.specs.Kinds.{OneMoves}
 use Rattle.nfg_words.specs.Layout.{code_word, start_of, stop_of}
 use Rattle.nfg_words.specs.Rule.{Views, IsPublished, IsJustified, AreRecordsTrue, AreNumbersJustified, Rule}
 use Rattle.nfg_words.specs.Steps.{IsNamed, bucket_read, codes_read, number_read, split, split_off, joined}
 use Rattle.nfg_words.specs.View.{entry, IsIn, IsAmong, emptied}
 use Rattle.nfg_words.specs.declared.view.View.{View}
+use Rattle.nfg_words.specs.SoundLaws.{says_in}
 
 suc_is_not_zero : (m : ℕ) → suc m ≡ 0 → ⊥
 suc_is_not_zero m e = omega arith

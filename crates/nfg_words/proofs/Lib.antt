@@ -1,4 +1,5 @@
 mod Asks
+mod Comparing
 mod Entries
 mod Examples
 mod KeepsChunks
@@ -8,4 +9,3 @@ mod KeepsViews
 mod Moved
 mod Opening
 mod ProbeTableLemmas
-mod Reading

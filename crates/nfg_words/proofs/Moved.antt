@@ -5,19 +5,14 @@ use Rattle.std.proofs.lemmas.Bool.Decides.{nat_tests}
 use mathlib.Core.Logic.{dite}
 use mathlib.Core.Option as maybe
 use Rattle.nfg_syn.specs.Known.{Texts, IsOneToOne}
-use Rattle.nfg_words.proofs.Reading.{text_named-same}
+use Rattle.nfg_words.specs.Reading.{text_named-same}
 use Rattle.nfg_words.specs.Layout.{chunk_count, chunk_word, code_word, start_of, length_of, stop_of, second_code, text_named}
 use Rattle.nfg_words.specs.ProbeTable.{probe_sequence}
 use Rattle.nfg_words.specs.Rule.{Views, AreApart, codes_now, bucket_now, texts_now, IsFilled, LiesInChunk, IsPublished, AreWordsValid, AreRangesApart, IsProbedBefore, AreRecordsTrue, AreWritesTrue, AreNumbersJustified, Rule}
 use Rattle.nfg_words.specs.Kinds.{OneMoves}
 use Rattle.nfg_words.specs.View.{IsIn, emptied}
 use Rattle.nfg_words.specs.declared.view.View.{View}
-
-pub bucket_below : (n : ℕ) (word : ℕ → ℕ) (place : ℕ) → place < n → bucket_now n word place ≡ Some (word place)
-bucket_below n word place below = grind (arith, nat_tests)
-
-pub bucket_beyond : (n : ℕ) (word : ℕ → ℕ) (place : ℕ) → n ≤ place → bucket_now n word place ≡ None
-bucket_beyond n word place beyond = grind (arith, nat_tests)
+use Rattle.nfg_words.specs.SoundLaws.{bucket_below, bucket_beyond}
 
 -- an empty bucket names no code word
 pub nothing_named : (word c : ℕ) → word ≡ 0 → c < stop_of word → ⊥

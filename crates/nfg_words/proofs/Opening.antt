@@ -5,12 +5,11 @@ use mathlib.Core.Logic.{dite}
 use mathlib.Core.Option as maybe
 use Rattle.nfg_syn.specs.Known.{nothing}
 use Rattle.nfg_syn.specs.KnownLaws.{same_text}
-use Rattle.nfg_words.proofs.KeepsPublish.{places_true, no_text}
-use Rattle.nfg_words.proofs.Moved.{bucket_below, bucket_beyond}
 use Rattle.nfg_words.specs.Layout.{chunk_word, text_named}
 use Rattle.nfg_words.specs.Rule.{Views, Rule, IsFilled, LiesInChunk, AreApart, AreRecordsTrue, AreWritesTrue, AreNumbersJustified, codes_now, texts_now}
 use Rattle.nfg_words.specs.View.{fresh_view, places_of}
 use Rattle.nfg_words.specs.declared.view.View.{View}
+use Rattle.nfg_words.specs.SoundLaws.{bucket_below, bucket_beyond, no_text, places_true}
 
 module _ (n : ℕ) (word : ℕ → ℕ) (zeros : (index : ℕ) → word index ≡ 0) where
   text_is_none : (place : ℕ) → texts_now n word place ≡ None

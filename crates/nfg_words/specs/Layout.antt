@@ -1,5 +1,5 @@
 -- The layout of a table's words: buckets, then chunk words, then code words (this project's own).
-use Rattle.std.specs.Prelude.{ℕ, zero, suc, ◌+◌, ◌*◌, ◌/◌, ◌%◌, ◌^◌, List, [], ◌∷◌, Option, Some, None}
+use Rattle.std.specs.Prelude.{ℕ, zero, suc, ◌+◌, ◌*◌, ◌/◌, ◌%◌, ◌^◌, List, [], ◌∷◌, slice_index, Option, Some, None}
 
 -- how many chunks a table of n buckets has; each has 512 code words
 abbrev pub chunk_count : ℕ → ℕ
@@ -43,6 +43,10 @@ first_code word = word % 2 ^ 32
 
 abbrev pub second_code : ℕ → ℕ
 second_code word = word / 2 ^ 32
+
+-- the code word at an index of a text, where 0 stands past its end
+abbrev pub pair_at : List ℕ → ℕ → ℕ
+pair_at text k = code_pair (slice_index text (2 * k)) (slice_index text (2 * k + 1))
 
 -- the last code point of a text, from a code word that is known
 abbrev pub last_of : Option ℕ → Option (List ℕ)

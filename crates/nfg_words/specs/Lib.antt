@@ -1,7 +1,10 @@
+pub mod Comparing
 pub mod Kinds
 pub mod Layout
 pub mod ProbeTable
+pub mod Reading
 pub mod Rule
+pub mod SoundLaws
 pub mod Steps
 pub mod View
 pub mod Words

@@ -1,6 +1,7 @@
 //! A table of synthetics that callers on several threads share without locks.
 #![tactic(auto)]
 
+pub mod compare;
 pub mod laws;
 pub mod layout;
 pub mod loads;

@@ -2,7 +2,7 @@
 ghost use Rattle.std.specs.Prelude.{◌≡◌, ◌≢◌, ◌+◌, ◌≤◌};
 ghost use Rattle.nfg_words.specs.Rule.{IsJustified};
 ghost use Rattle.nfg_words.specs.Steps.{IsNamed, codes_read, number_read};
-ghost use Rattle.nfg_words.specs.View.{Grows};
+ghost use Rattle.nfg_words.specs.View.{Grows, SaysAll};
 ghost use Rattle.nfg_words.specs.Words.{IsSeatOf};
 
 use crate::layout;
@@ -61,6 +61,7 @@ pub fn read_codes<L: Ledger>(
     ensures table { IsSeatOf words.now.shared.table_id n holder.new }
     ensures read { holder.new.me.0 ≡ codes_read holder.old.me.0 c result }
     ensures grows { Grows holder.old.me.0 holder.new.me.0 }
+    ensures made { holder.new.me.0.steps ≡ holder.old.me.0.steps + 1 }
     ensures counted { steps.new ≡ steps.old + 1 }
 {
     steps.tick();
@@ -81,12 +82,14 @@ fn read_for<K: Target>(
     requires key { words.now.shared.key ≡ n }
     requires limit { n ≤ 1048576 }
     requires named { IsNamed holder.old.me.0 c }
-    requires justified { IsJustified n (codes_read holder.old.me.0 c wanted) place }
+    requires justified { SaysAll holder.old.me.0.codes (codes_read holder.old.me.0 c wanted).codes
+        → IsJustified n (codes_read holder.old.me.0 c wanted) place }
     requires target { (K.place ≡ place) × (K.wanted ≡ wanted) }
     ensures table { IsSeatOf words.now.shared.table_id n holder.new }
     ensures numbered { result ≡ wanted → holder.new.me.0 ≡ number_read holder.old.me.0 c result place }
     ensures read { result ≢ wanted → holder.new.me.0 ≡ codes_read holder.old.me.0 c result }
     ensures grows { Grows holder.old.me.0 holder.new.me.0 }
+    ensures made { holder.new.me.0.steps ≡ holder.old.me.0.steps + 1 }
 {
     let (_, _) = (place, wanted);
     words
@@ -108,11 +111,13 @@ pub fn number_codes<L: Ledger>(
     requires key { words.now.shared.key ≡ n }
     requires limit { n ≤ 1048576 }
     requires named { IsNamed holder.old.me.0 c }
-    requires justified { IsJustified n (codes_read holder.old.me.0 c wanted) place }
+    requires justified { SaysAll holder.old.me.0.codes (codes_read holder.old.me.0 c wanted).codes
+        → IsJustified n (codes_read holder.old.me.0 c wanted) place }
     ensures table { IsSeatOf words.now.shared.table_id n holder.new }
     ensures numbered { result ≡ wanted → holder.new.me.0 ≡ number_read holder.old.me.0 c result place }
     ensures read { result ≢ wanted → holder.new.me.0 ≡ codes_read holder.old.me.0 c result }
     ensures grows { Grows holder.old.me.0 holder.new.me.0 }
+    ensures made { holder.new.me.0.steps ≡ holder.old.me.0.steps + 1 }
     ensures counted { steps.new ≡ steps.old + 1 }
 {
     steps.tick();

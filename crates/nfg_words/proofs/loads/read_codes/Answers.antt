@@ -1,6 +1,7 @@
 use Rattle.std.proofs.Common.{◌∙◌, arith}
-use Rattle.nfg_words.proofs.Asks.{codes_asks, named_inside, seat_stays, tells_codes}
+use Rattle.nfg_words.proofs.Asks.{codes_asks, seat_stays, tells_codes}
 use Rattle.nfg_words.proofs.loads.read_codes.Goals as goal
+use Rattle.nfg_words.specs.SoundLaws.{named_inside}
 
 pub code_word-requires-clause-code : goal.code_word-requires-clause-code
 code_word-requires-clause-code g c = named_inside c.args.n c.args.holder.now.me.0 c.requires.table.sound c.args.c c.requires.named

@@ -1,4 +1,4 @@
--- What is read of a text, by what is known of the code words.
+-- Laws of what is read of a text, by what is known of the code words.
 use Rattle.std.proofs.Common.{◌≡◌, ℕ, zero, suc, ◌+◌, ◌/◌, ◌<◌, ◌≤◌, List, Option, Some, None, refl, ap, ◌∙◌, arith}
 use Rattle.nfg_words.specs.Layout.{read_codes, text_named, last_of, both_before, start_of, length_of, stop_of}
 
