@@ -230,7 +230,11 @@ read_asks n key slots id place me same size below = subst (λ (k : ℕ). Allows 
       keeps,
       tt,
       word_stays n state place id seen kept.0 rule,
-      (refl, stays n id state state.words me seen size at (kept.0, rule) (bucket_read_size me.0 place found) (bucket_grows n slots id me size state kept at place found refl)),
+      (
+        refl,
+        (λ recorded says. ((kept.1.records_true id me.0 at).buckets place recorded (says_in me.0.buckets place recorded says)).2),
+        stays n id state state.words me seen size at (kept.0, rule) (bucket_read_size me.0 place found) (bucket_grows n slots id me size state kept at place found refl),
+      ),
     ))
 
 pub publish_asks : (n key slots id place bucket : ℕ) (me : Me ℕ View) (text : List ℕ) → key ≡ n → me.0.size ≡ n → place < n → CanPublish n me.0 place bucket text

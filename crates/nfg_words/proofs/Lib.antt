@@ -9,3 +9,4 @@ mod KeepsViews
 mod Moved
 mod Opening
 mod ProbeTableLemmas
+mod Written

@@ -8,3 +8,4 @@ pub mod SoundLaws
 pub mod Steps
 pub mod View
 pub mod Words
+pub mod Writing

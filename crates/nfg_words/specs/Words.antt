@@ -10,7 +10,7 @@ use Rattle.atomic_table.specs.declared.shared.Seat.{Seat}
 use Rattle.nfg_words.specs.Layout.{chunk_count, word_count}
 use Rattle.nfg_words.specs.Rule.{Rule}
 use Rattle.nfg_words.specs.Steps.{chunk_taken, chunk_found, codes_written, bucket_read, bucket_published, codes_read, number_read}
-use Rattle.nfg_words.specs.View.{Grows}
+use Rattle.nfg_words.specs.View.{Grows, Says}
 use Rattle.nfg_words.specs.declared.view.View.{View}
 
 -- the rule, of a state of the atomic table
@@ -50,9 +50,11 @@ abbrev pub TellsWriting : atomic.Step ℕ → Me ℕ View → ℕ → Me ℕ Vie
 TellsWriting step before written later = (later.0 ≡ codes_written before.0 (step.word - (before.0.size + chunk_count before.0.size)) written)
     × Stays before later
 
--- what a load of a bucket word tells
+-- what a load of a bucket word tells: what was recorded of it is what is found
 abbrev pub TellsBucket : atomic.Step ℕ → Me ℕ View → ℕ → Me ℕ View → Type 0
-TellsBucket step before found later = (later.0 ≡ bucket_read before.0 step.word found) × Stays before later
+TellsBucket step before found later = (later.0 ≡ bucket_read before.0 step.word found)
+    × ((recorded : ℕ) → Says before.0.buckets step.word recorded → found ≡ recorded)
+    × Stays before later
 
 -- what an exchange of a bucket word from 0 tells
 abbrev pub TellsPublishing : atomic.Step ℕ → Me ℕ View → ℕ → Me ℕ View → Type 0

@@ -10,3 +10,4 @@ pub mod steps;
 mod tests;
 pub mod view;
 pub mod words;
+pub mod write;

@@ -2,7 +2,7 @@
 ghost use Rattle.std.specs.Prelude.{◌≡◌, ◌≢◌, ◌+◌, ◌*◌, ◌<◌, ◌≤◌, ℕ, List, [], true, false, IfOk};
 ghost use Rattle.nfg_words.specs.Layout.{chunk_count};
 ghost use Rattle.nfg_words.specs.Steps.{CanPublish, bucket_read, bucket_published, chunk_taken, chunk_found, codes_written, split, split_off, joined};
-ghost use Rattle.nfg_words.specs.View.{Grows, fresh_view};
+ghost use Rattle.nfg_words.specs.View.{Grows, Says, fresh_view};
 ghost use Rattle.nfg_words.specs.Words.{IsSeatOf};
 
 use crate::layout;
@@ -167,6 +167,7 @@ pub fn read_bucket<L: Ledger>(
     requires place { place < n }
     ensures table { IsSeatOf words.now.shared.table_id n holder.new }
     ensures read { holder.new.me.0 ≡ bucket_read holder.old.me.0 place result }
+    ensures recorded { (word : ℕ) → Says holder.old.me.0.buckets place word → result ≡ word }
     ensures grows { Grows holder.old.me.0 holder.new.me.0 }
     ensures counted { steps.new ≡ steps.old + 1 }
 {

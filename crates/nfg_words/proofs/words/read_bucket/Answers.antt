@@ -11,4 +11,4 @@ load-requires g c =
     (table.table, omega arith, read_asks c.args.n shared.key shared.table_id.slots c.args.holder.now.id c.args.place c.args.holder.now.me c.requires.key table.size below)
 
 pub returns-clause-table : goal.returns-clause-table
-returns-clause-table g c = seat_stays _ c.args.n c.args.holder.now c.load.new.seat c.requires.table c.load.ensures.0 c.load.ensures.2.1
+returns-clause-table g c = seat_stays _ c.args.n c.args.holder.now c.load.new.seat c.requires.table c.load.ensures.0 c.load.ensures.2.2
