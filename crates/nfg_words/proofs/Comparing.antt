@@ -20,7 +20,7 @@ use Rattle.nfg_words.specs.SoundLaws.{its_records, its_rule, its_word, same_word
 first_of_pair : (a b : ℕ) → a < 2 ^ 32 → first_code (code_pair a b) ≡ a
 first_of_pair a b fits = mod_low b 32 a fits
 
-second_of_pair : (a b : ℕ) → a < 2 ^ 32 → second_code (code_pair a b) ≡ b
+pub second_of_pair : (a b : ℕ) → a < 2 ^ 32 → second_code (code_pair a b) ≡ b
 second_of_pair a b fits = shr_high b 32 a fits
 
 -- a code word is that of its two code points
@@ -106,7 +106,7 @@ read_some codes start (suc (suc count)) known =
     let after = read_some codes (suc start) count (λ c low high. known c (omega arith) (omega arith)) in
     (first_code here.0 ∷ second_code here.0 ∷ after.0, λ i. both_before (here.1 i) (after.1 i))
 
-text_named-at : (codes : ℕ → Option ℕ) (bucket : ℕ) → bucket ≢ 0 → text_named codes (Some bucket) ≡ read_codes codes (start_of bucket) (length_of bucket)
+pub text_named-at : (codes : ℕ → Option ℕ) (bucket : ℕ) → bucket ≢ 0 → text_named codes (Some bucket) ≡ read_codes codes (start_of bucket) (length_of bucket)
 text_named-at codes zero some = absurd (some refl)
 text_named-at codes (suc less) some = refl
 

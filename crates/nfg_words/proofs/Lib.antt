@@ -10,3 +10,4 @@ mod Moved
 mod Opening
 mod ProbeTableLemmas
 mod Written
+mod Putting

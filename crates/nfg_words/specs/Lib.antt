@@ -1,6 +1,7 @@
 pub mod Comparing
 pub mod Kinds
 pub mod Layout
+pub mod Passes
 pub mod ProbeTable
 pub mod Reading
 pub mod Rule

@@ -5,6 +5,8 @@ pub mod compare;
 pub mod laws;
 pub mod layout;
 pub mod loads;
+pub mod pass;
+pub mod put;
 pub mod steps;
 #[cfg(test)]
 mod tests;
