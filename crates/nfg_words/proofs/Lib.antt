@@ -11,3 +11,4 @@ mod Opening
 mod ProbeTableLemmas
 mod Written
 mod Putting
+mod Looking

@@ -35,3 +35,11 @@ ArePassed n places text count = (earlier : ℕ) → earlier < count
 -- the place holds a text that is not this one
 abbrev pub HoldsOther : View → ℕ → List ℕ → Type 0
 HoldsOther view place text = (other : List ℕ) × (places_of view place ≡ Some other) × (other ≢ text)
+
+-- the text stands at place k, and each place before it on the text's probe sequence holds another text
+pub record IsFound (n : ℕ) (places : Texts) (k : ℕ) (text : List ℕ) : Type 0 where
+  pub here : places k ≡ Some text
+  pub index : ℕ
+  pub on_sequence : index < n
+  pub reaches : probe_sequence n text index ≡ k
+  pub passed : ArePassed n places text index

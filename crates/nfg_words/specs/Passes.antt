@@ -1,5 +1,5 @@
 -- What a pass holds when the program runs, and what one call does to its view (this project's own).
-use Rattle.std.specs.Prelude.{◌≡◌, ◌≢◌, ℕ, ◌+◌, ◌*◌, ◌/◌, ◌<◌, ◌≤◌, Bool, List, ◌∷◌, length, Some, if◌then◌else◌}
+use Rattle.std.specs.Prelude.{◌≡◌, ◌≢◌, ℕ, ◌+◌, ◌*◌, ◌/◌, ◌<◌, ◌≤◌, Bool, List, ◌∷◌, length, Some, ◌⊎◌, if◌then◌else◌}
 use Rattle.atomic_table.specs.Seated.{TableId}
 use Rattle.nfg_words.specs.Layout.{chunk_count}
 use Rattle.nfg_words.specs.View.{Says, IsAmong, Grows, places_of}
@@ -60,6 +60,10 @@ pub record Finds (place : ℕ) (text : List ℕ) (old new : View) : Type 0 where
   pub here : places_of new place ≡ Some text
   pub numbered : new.numbered ≡ place ∷ old.numbered
   pub origin : SameOrigin old new
+
+-- the pass has put no text, or one at this place
+abbrev pub PutsAtMost : ℕ → View → View → Type 0
+PutsAtMost place old new = (new.inserted ≡ old.inserted) ⊎ (new.inserted ≡ place ∷ old.inserted)
 
 -- how many steps a call may still need for getting a text ready, and how many chunks
 abbrev pub ready_steps : ℕ → Bool → ℕ

@@ -5,7 +5,7 @@ ghost use Rattle.nfg_words.specs.Layout as specs;
 ghost use Rattle.nfg_words.specs.Passes.{AreReadInFull, Finds, IsHeld, IsReady, LooksOn, view_of};
 ghost use Rattle.nfg_words.specs.ProbeTable.{IsStorable, probe_sequence};
 ghost use Rattle.nfg_words.specs.Steps.{bucket_read};
-ghost use Rattle.nfg_words.specs.View.{places_of};
+ghost use Rattle.nfg_words.specs.View.{Grows, places_of};
 ghost use Rattle.nfg_words.specs.Writing.{AreChunksSpent};
 
 use crate::layout;
@@ -107,6 +107,7 @@ pub fn put_text<L: Ledger>(
     ensures inserted { result ≡ 0 → (view_of pass.new).inserted ≡ place ∷ (view_of pass.old).inserted }
     ensures found { result ≢ 0 → view_of pass.new ≡ bucket_read (view_of pass.old) place result }
     ensures still_ready { result ≢ 0 → IsReady pass.new codes.now }
+    ensures grows { Grows (view_of pass.old) (view_of pass.new) }
     ensures same_chunks { (view_of pass.new).taken ≡ (view_of pass.old).taken }
     ensures made { (view_of pass.new).steps ≡ (view_of pass.old).steps + 1 }
     ensures counted { steps.new ≡ steps.old + 1 }
