@@ -12,3 +12,4 @@ mod ProbeTableLemmas
 mod Written
 mod Putting
 mod Looking
+mod KnownLemmas

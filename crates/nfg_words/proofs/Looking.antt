@@ -10,7 +10,7 @@ use Rattle.nfg_words.specs.Comparing.{ReadsOn, ArePassed, HoldsOther, IsFound, n
 use Rattle.nfg_words.specs.Layout.{text_named}
 use Rattle.atomic_table.specs.Seated.{TableId}
 use Rattle.atomic_table.specs.declared.shared.Seat.{Seat}
-use Rattle.nfg_words.specs.Passes.{AreReadBut, AreReadInFull, Finds, IsHeld, LooksOn, SameOrigin, view_of}
+use Rattle.nfg_words.specs.Passes.{AreReadBut, AreReadInFull, Finds, IsHeld, IsPassOf, LooksOn, SameOrigin, view_of}
 use Rattle.nfg_words.specs.Words.{IsSeatOf}
 use Rattle.nfg_words.specs.declared.pass.WordPass.{WordPass}
 use Rattle.nfg_words.specs.ProbeTable.{probe_sequence}
@@ -182,3 +182,16 @@ found_within n places text k found passed =
 
 pub ok_apart : {E : Type 0} (answer : Result Bool E) → answer ≡ Ok false → answer ≡ Ok true → ⊥
 ok_apart answer one other = cc
+
+pub ReadsOn-refl : (v : View) → ReadsOn v v
+ReadsOn-refl v = record { same = refl; codes = λ k w says. says }
+
+-- and so is a pass of its table
+pub pass_reads : (id : TableId) (n : ℕ) (pass : WordPass) (holder : Seat ℕ View) → IsPassOf id n pass → IsSeatOf id n holder → ReadsOn (view_of pass) holder.me.0
+    → IsPassOf id n (record pass { holder = holder })
+pass_reads id n pass holder is seat on = record {
+  held = held_reads id n pass holder is.held seat (ap (λ (v : View). v.unspent) on.same) (ap (λ (v : View). v.end) on.same) (ap (λ (v : View). v.chunks) on.same);
+  in_full = λ place found says.
+      let was = is.in_full place found (subst (λ (v : View). Says v.buckets place found) on.same says) in
+      (was.0, places_more n (view_of pass) holder.me.0 on.codes (λ k w s. ap (λ (v : View). entry v.buckets k) on.same ∙ s) place was.0 was.1);
+}

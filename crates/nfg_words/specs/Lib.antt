@@ -7,6 +7,8 @@ pub mod Reading
 pub mod Rule
 pub mod SoundLaws
 pub mod Steps
+pub mod Table
+pub mod TableLaws
 pub mod View
 pub mod Words
 pub mod Writing

@@ -5,12 +5,16 @@ pub mod compare;
 pub mod laws;
 pub mod layout;
 pub mod loads;
+pub mod naming;
 pub mod pass;
+pub mod probe;
 mod probe_error;
 pub mod put;
+pub mod read;
 pub mod steps;
 #[cfg(test)]
 mod tests;
+mod table;
 pub mod view;
 pub mod visit;
 pub mod walk;
@@ -19,3 +23,4 @@ pub mod write;
 
 pub use pass::WordPass;
 pub use probe_error::ProbeError;
+pub use table::WordTable;
