@@ -80,8 +80,8 @@ module _ (n : ℕ) (old new : View) (sound : IsSound n old) (grows : Grows old n
         known_at new k t (ap (is_among new.numbered) same ∙ named_here) read)
         (λ differ. besides (suc k) (λ same. differ (suc_same k place same)) ∙ e)
       where
-      suc_same : (a b : ℕ) → suc a ≡ suc b → a ≡ b
-      suc_same a b e = omega arith
+        suc_same : (a b : ℕ) → suc a ≡ suc b → a ≡ b
+        suc_same a b e = omega arith
 
   -- the text of a number that is known is found at its place
   pub known_found : (k : ℕ) (t : List ℕ) → known_of old (suc k) ≡ Some t → IsFound n (places_of old) k t
@@ -89,6 +89,10 @@ module _ (n : ℕ) (old new : View) (sound : IsSound n old) (grows : Grows old n
       let read = known_read old k t e in
       let is = justified k read.0 in
       subst (IsFound n (places_of old) k) (same_text is.0 t (sym is.1 ∙ read.1)) (record { here = is.1; index = is.2; on_sequence = is.3; reaches = is.4; passed = is.5 })
+
+-- the text at a place whose number a sound view knows
+pub justified_text : (n : ℕ) (view : View) → IsSound n view → (k : ℕ) → is_among view.numbered k ≡ true → (t : List ℕ) × (places_of view k ≡ Some t)
+justified_text n view sound k named = let is = (its_rule n view sound).numbers_justified sound.pass view sound.at k (among_is view.numbered k named) in (is.0, is.1)
 
 some_at : (found : Option (List ℕ)) → IsSome found → (t : List ℕ) × (found ≡ Some t)
 some_at (Some t) is = (t, refl)
@@ -154,12 +158,12 @@ module _ (n : ℕ) (old new : View) (sound : IsSound n old) (place found recorde
   pub full_again : AreReadInFull old → AreReadInFull new
   full_again full other word at = let was = full other word (old_says found refl is) in (was.0, places_more n old new grows.codes grows.buckets other was.0 was.1)
     where
-    old_says : (w : ℕ) → found ≡ w → new ≡ bucket_read old place w → Says old.buckets other word
-    old_says zero same read = subst (λ (v : View). Says v.buckets other word) read at
-    old_says (suc less) same read = ⊎_elim
-        (λ here. ap (entry old.buckets) (sym here.0) ∙ (says ∙ ap Some (sym agrees ∙ (same ∙ here.1))))
-        (λ past. past)
-        (says-cons place (suc less) old.buckets other word (subst (λ (v : View). Says v.buckets other word) read at))
+      old_says : (w : ℕ) → found ≡ w → new ≡ bucket_read old place w → Says old.buckets other word
+      old_says zero same read = subst (λ (v : View). Says v.buckets other word) read at
+      old_says (suc less) same read = ⊎_elim
+          (λ here. ap (entry old.buckets) (sym here.0) ∙ (says ∙ ap Some (sym agrees ∙ (same ∙ here.1))))
+          (λ past. past)
+          (says-cons place (suc less) old.buckets other word (subst (λ (v : View). Says v.buckets other word) read at))
 
 -- what a pass has read at a place whose number it knows
 module _ (n : ℕ) (view : View) (sound : IsSound n view) (place : ℕ) (text : List ℕ) (read : places_of view place ≡ Some text) where

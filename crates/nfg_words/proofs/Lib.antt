@@ -13,3 +13,4 @@ mod Written
 mod Putting
 mod Looking
 mod KnownLemmas
+mod MeetLemmas

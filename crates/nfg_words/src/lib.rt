@@ -12,9 +12,9 @@ mod probe_error;
 pub mod put;
 pub mod read;
 pub mod steps;
+mod table;
 #[cfg(test)]
 mod tests;
-mod table;
 pub mod view;
 pub mod visit;
 pub mod walk;

@@ -6,11 +6,11 @@ ghost use Rattle.nfg_words.specs.Layout.{chunk_count};
 ghost use Rattle.nfg_words.specs.Passes.{view_of};
 ghost use Rattle.nfg_words.specs.Table.{IsWordPass, PutsAtMostIts, seen_of};
 
+use crate::naming::find;
 use crate::pass::WordPass;
 use crate::probe_error::ProbeError;
 use crate::steps::Steps;
 use crate::table::WordTable;
-use crate::naming::find;
 use std::sync::ledger::Ledger;
 
 /// The number of the text at a place.
