@@ -15,6 +15,8 @@ pub mod steps;
 mod table;
 #[cfg(test)]
 mod tests;
+#[cfg(test)]
+mod tests_of_tables;
 pub mod view;
 pub mod visit;
 pub mod walk;
@@ -23,4 +25,5 @@ pub mod write;
 
 pub use pass::WordPass;
 pub use probe_error::ProbeError;
+pub use steps::Steps;
 pub use table::WordTable;
