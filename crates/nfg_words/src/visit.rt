@@ -35,7 +35,8 @@ fn get_ready<L: Ledger>(
     ensures codes { (view_of pass.new).codes ≡ (view_of pass.old).codes }
     ensures ready { result ≡ true → IsReady pass.new codes.now }
     ensures spent { result ≡ false → AreChunksSpent n (view_of pass.new) }
-    ensures chunks { result ≡ true → (view_of pass.new).taken + ready_chunks ready.new ≤ (view_of pass.old).taken + ready_chunks ready.old }
+    ensures chunks { result ≡ true → (view_of pass.new).taken + ready_chunks ready.new
+        ≤ (view_of pass.old).taken + ready_chunks ready.old }
     ensures made { result ≡ true → (view_of pass.new).steps + ready_steps n ready.new
         ≤ (view_of pass.old).steps + ready_steps n ready.old }
     ensures not_ready { result ≡ false → ready.old ≡ false }
