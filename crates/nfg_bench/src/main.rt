@@ -14,6 +14,7 @@ mod search;
 mod segment;
 mod strand;
 mod stream;
+mod tables;
 mod texts;
 mod timing;
 mod workbench;
@@ -32,11 +33,12 @@ fn main(rt: HostRuntime) -> io::Result<()> {
             "seam" => seam::report(&rt, rt.alloc()),
             "search" => search::report(&rt, rt.alloc()),
             "print" => print::report(&rt, rt.alloc()),
+            "tables" => tables::report(&rt, rt.alloc()),
             "segment" => segment::report(&rt, rt.alloc()),
             _ => println!(rt; "No such subject: {word}"),
         },
         None => println!(rt;
-            "Name what to time: lanes, blocks, decode, strand, stream, segment, seam, search, print"
+            "Name what to time: lanes, blocks, decode, strand, stream, segment, seam, search, print, tables"
         ),
     }
 }

@@ -26,7 +26,7 @@ pub struct Timings {
 /// More than any timing, and small enough for what is computed from it.
 const LONGEST: u64 = 1 << 40;
 
-fn nanoseconds(clock: &impl Clock, start: Instant) -> io::Result<u64>
+pub fn nanoseconds(clock: &impl Clock, start: Instant) -> io::Result<u64>
     ensures { IfOk result (λ passed. passed ≤ 2 ^ 40) }
 {
     let passed = start.elapsed(clock)?.as_nanos();
@@ -49,6 +49,20 @@ fn median(times: &mut [u64]) -> u64
 {
     times.sort_unstable();
     times[times.len() / 2]
+}
+
+/// The middle ones of the times of both ways, which it puts in order.
+pub fn medians(fast: &mut [u64], plain: &mut [u64], answered: usize) -> Timings
+    requires fast { 0 < length fast.old }
+    requires plain { 0 < length plain.old }
+    ensures fast { IsPermutation fast.old fast.new }
+    ensures plain { IsPermutation plain.old plain.new }
+{
+    Timings {
+        fast: median(fast),
+        plain: median(plain),
+        answered,
+    }
 }
 
 /// Times both ways in turn, so that they share what else the machine does.
