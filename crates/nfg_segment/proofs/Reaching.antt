@@ -12,7 +12,7 @@ use Rattle.nfg_text.specs.declared.breaks.Memory.{Memory}
 use Rattle.nfg_segment.specs.Given.{Given, with_head, with_cluster, with_clusters}
 use Rattle.nfg_segment.specs.Held.{Unfinished, Keeps, is_some, ends_before, next}
 use Rattle.nfg_segment.specs.Reach.{Reaches}
-use Rattle.nfg_segment.specs.declared.safe_run.Reach.{Reach}
+use Rattle.nfg_segment.specs.declared.open_reach.Reach.{Reach}
 use Rattle.nfg_segment.proofs.Keeping.{unfinished, is_short, left_open-ends, left_open-stays}
 use Rattle.nfg_segment.proofs.TextLemmas.{IsText-take, IsText-drop}
 
@@ -58,7 +58,7 @@ pub some-append : (k t : List ℕ) → is_some k ≡ true → is_some (k ++ t) �
 some-append [] t some = cc
 some-append (x ∷ xs) t some = refl
 
-some-right : (k t : List ℕ) → 0 < length t → is_some (k ++ t) ≡ true
+pub some-right : (k t : List ℕ) → 0 < length t → is_some (k ++ t) ≡ true
 some-right [] [] h = absurd (omega (arith, h))
 some-right [] (y ∷ ys) h = refl
 some-right (x ∷ xs) t h = refl

@@ -1,59 +1,17 @@
--- Code points that start safely, one after another.
-use Rattle.std.proofs.Common.{◌≡◌, ℕ, ◌+◌, ◌<◌, true, false, not, List, [], ◌∷◌, ◌++◌, length, take, get_or, refl, sym, ap, subst, ◌∙◌, arith, append_assoc, append-nil}
+-- What is held, and a settled text behind it.
+use Rattle.std.proofs.Common.{◌≡◌, ℕ, ◌+◌, ◌<◌, true, false, not, List, [], ◌∷◌, ◌++◌, length, take, get_or, refl, sym, ap, subst, ◌∙◌, arith, append_assoc}
 use Rattle.std.proofs.lemmas.Bool.{and_parts, and_from}
 use Rattle.std.proofs.lemmas.List.{take_more}
-use Rattle.std.specs.List.{list_all}
 use Rattle.nfg_text.specs.Forms.{nfc}
 use Rattle.nfg_text.specs.Graphemes.{clusters, graphemes_of, starts_safely}
-use Rattle.nfg_text.proofs.Proved.{nfc_at_safe_start, safe_starts_stay}
 use Rattle.nfg_segment.specs.Follows.{Follows}
 use Rattle.nfg_segment.specs.Given.{Given, with_clusters}
-use Rattle.nfg_segment.specs.Held.{Unfinished, Held, Keeps, next, next_all, closed, closed_all, all_safe, none_safe}
+use Rattle.nfg_segment.specs.Held.{Unfinished, Held, Keeps, next, next_all, closed, closed_all, none_safe}
 use Rattle.nfg_segment.proofs.Machine.{with_clusters-append}
 use Rattle.nfg_segment.proofs.Stable.{stable-hold}
 use Rattle.nfg_segment.proofs.Steps.{held}
 
--- ---- their NFC is themselves, whatever comes before
-
-safe-front : (c : ℕ) (cs : List ℕ) → all_safe (c ∷ cs) ≡ true → starts_safely c ≡ true
-safe-front c cs all = (and_parts (starts_safely c) (list_all starts_safely cs) all).0
-
-safe-rest : (c : ℕ) (cs : List ℕ) → all_safe (c ∷ cs) ≡ true → all_safe cs ≡ true
-safe-rest c cs all = (and_parts (starts_safely c) (list_all starts_safely cs) all).1
-
-pub nfc-safe_run : (t run : List ℕ) → all_safe run ≡ true → nfc (t ++ run) ≡ nfc t ++ run
-nfc-safe_run t [] all = ap nfc (append-nil t) ∙ sym (append-nil (nfc t))
-nfc-safe_run t (c ∷ cs) all =
-    nfc_at_safe_start t c cs (safe-front c cs all)
-    ∙ ap (λ l. nfc t ++ l) (nfc-safe_run (c ∷ []) cs (safe-rest c cs all) ∙ ap (λ l. l ++ cs) (safe_starts_stay c (safe-front c cs all)))
-
--- ---- the first of them, and the last
-
-pub safe-push : (xs : List ℕ) (c : ℕ) → all_safe xs ≡ true → starts_safely c ≡ true → all_safe (xs ++ c ∷ []) ≡ true
-safe-push [] c all one = and_from _ _ one refl
-safe-push (x ∷ xs) c all one = and_from _ _ (safe-front x xs all) (safe-push xs c (safe-rest x xs all) one)
-
-safe-init : (xs : List ℕ) (c : ℕ) → all_safe (xs ++ c ∷ []) ≡ true → all_safe xs ≡ true
-safe-init [] c all = refl
-safe-init (x ∷ xs) c all = and_from _ _ (safe-front x (xs ++ c ∷ []) all) (safe-init xs c (safe-rest x (xs ++ c ∷ []) all))
-
-safe-last : (xs : List ℕ) (c : ℕ) → all_safe (xs ++ c ∷ []) ≡ true → starts_safely c ≡ true
-safe-last [] c all = safe-front c [] all
-safe-last (x ∷ xs) c all = safe-last xs c (safe-rest x (xs ++ c ∷ []) all)
-
--- one more of a text
-pub safe-more : (t : List ℕ) (n : ℕ) → n < length t → all_safe (take n t) ≡ true → starts_safely (get_or t n 0) ≡ true → all_safe (take (n + 1) t) ≡ true
-safe-more t n within all one = ap all_safe (take_more t n 0 within) ∙ safe-push (take n t) (get_or t n 0) all one
-
-pub safe-before : (t : List ℕ) (n : ℕ) → n < length t → all_safe (take (n + 1) t) ≡ true → all_safe (take n t) ≡ true
-safe-before t n within all = safe-init (take n t) (get_or t n 0) (sym (ap all_safe (take_more t n 0 within)) ∙ all)
-
-pub safe-at : (t : List ℕ) (n : ℕ) → n < length t → all_safe (take (n + 1) t) ≡ true → starts_safely (get_or t n 0) ≡ true
-safe-at t n within all = safe-last (take n t) (get_or t n 0) (sym (ap all_safe (take_more t n 0 within)) ∙ all)
-
-pub safe-first : (t : List ℕ) → 0 < length t → starts_safely (get_or t 0 0) ≡ true → all_safe (take (0 + 1) t) ≡ true
-safe-first [] some one = absurd (omega arith)
-safe-first (c ∷ cs) some one = and_from _ _ one refl
+-- ---- code points that do not start safely
 
 pub none-more : (t : List ℕ) (n : ℕ) → n < length t → none_safe (take n t) ≡ true → starts_safely (get_or t n 0) ≡ false → none_safe (take (n + 1) t) ≡ true
 none-more t n within none one = ap none_safe (take_more t n 0 within) ∙ push (take n t) (get_or t n 0) none one
@@ -76,15 +34,15 @@ closed_all-append k (x ∷ xs) ys =
     ap (λ l. closed k x ++ l) (closed_all-append (next k x) xs ys)
     ∙ sym (append_assoc (closed k x) (closed_all (next k x) xs) (closed_all (next_all (next k x) xs) ys))
 
-pub keeps-two : (o : Unfinished) (k t run : List ℕ) → all_safe run ≡ true → Keeps o (next_all (next_all k (nfc t)) run) → Keeps o (next_all k (nfc (t ++ run)))
-keeps-two o k t run all keeps = subst (Keeps o) (sym (ap (next_all k) (nfc-safe_run t run all) ∙ next_all-append k (nfc t) run)) keeps
+pub keeps-two : (o : Unfinished) (k t run : List ℕ) → nfc (t ++ run) ≡ nfc t ++ run → Keeps o (next_all (next_all k (nfc t)) run) → Keeps o (next_all k (nfc (t ++ run)))
+keeps-two o k t run stays keeps = subst (Keeps o) (sym (ap (next_all k) stays ∙ next_all-append k (nfc t) run)) keeps
 
-pub given-two : (first between last : Given) (k t run : List ℕ) → all_safe run ≡ true → between ≡ with_clusters first (closed_all k (nfc t))
+pub given-two : (first between last : Given) (k t run : List ℕ) → nfc (t ++ run) ≡ nfc t ++ run → between ≡ with_clusters first (closed_all k (nfc t))
     → last ≡ with_clusters between (closed_all (next_all k (nfc t)) run) → last ≡ with_clusters first (closed_all k (nfc (t ++ run)))
-given-two first between last k t run all one two =
+given-two first between last k t run stays one two =
     two ∙ ap (λ o. with_clusters o (closed_all (next_all k (nfc t)) run)) one
     ∙ sym (with_clusters-append first (closed_all k (nfc t)) (closed_all (next_all k (nfc t)) run))
-    ∙ ap (with_clusters first) (sym (ap (closed_all k) (nfc-safe_run t run all) ∙ closed_all-append k (nfc t) run))
+    ∙ ap (with_clusters first) (sym (ap (closed_all k) stays ∙ closed_all-append k (nfc t) run))
 
 -- ---- a composite in the place of its parts
 

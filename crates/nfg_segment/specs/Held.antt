@@ -1,6 +1,5 @@
 -- What a segmenter holds of a text (this project's own).
 use Rattle.std.specs.Prelude.{◌≡◌, ℕ, Bool, true, false, not, ◌&&◌, List, [], ◌∷◌, ◌++◌, take, reverse, if◌then◌else◌}
-use Rattle.std.specs.List.{list_all}
 use Rattle.nfg_text.specs.Grapheme.{is_grapheme_break}
 use Rattle.nfg_text.specs.Breaks.{Remembers}
 use Rattle.nfg_text.specs.Graphemes.{is_too_long, starts_safely}
@@ -73,7 +72,3 @@ as_list (c ∷ cs) = (c ∷ cs) ∷ []
 abbrev pub none_safe : List ℕ → Bool
 none_safe [] = true
 none_safe (c ∷ cs) = not (starts_safely c) && none_safe cs
-
--- every code point of the text does
-abbrev pub all_safe : List ℕ → Bool
-all_safe t = list_all starts_safely t

@@ -1,10 +1,12 @@
 //! What a segmenter holds of a text.
-ghost use Rattle.std.specs.Prelude.{◌≡◌, ◌<◌, ◌≤◌, ℕ, true, false, List, [], ◌∷◌, ◌++◌, ◌+◌, take, drop, length, IsTrue, IfSome, IfOk, OnOk};
+ghost use Rattle.std.specs.Prelude.{◌≡◌, ◌<◌, ◌≤◌, ℕ, true, false, List, [], ◌∷◌, ◌++◌, ◌+◌, map, take, drop, length, IsTrue, IfSome, IfOk, OnOk};
 ghost use Rattle.std.specs.List.{slice_index_or};
 ghost use Rattle.nfg_text.specs.Forms.{nfc};
 ghost use Rattle.nfg_text.specs.Graphemes.{graphemes_of, starts_safely};
 ghost use Rattle.nfg_text.specs.Plain.{singles};
 ghost use Rattle.nfg_text.specs.Text.{IsText};
+ghost use Rattle.nfg_passes.specs.Ids.{id_number};
+ghost use Rattle.nfg_passes.specs.Unsettled.{IsSettledText};
 ghost use Rattle.nfg_segment.specs.Follows.{Tracks, Follows, IsApart};
 ghost use Rattle.nfg_segment.specs.Given.{Grew, with_clusters};
 ghost use Rattle.nfg_segment.specs.Held.{Keeps, next_all, closed_all, as_list, none_safe};
@@ -12,9 +14,11 @@ ghost use Rattle.nfg_segment.specs.PlainLines.{ArePlainLines};
 
 use crate::ClusterSink;
 use crate::draft::{Draft, to_char};
+use crate::marked_run::push_settled;
 use crate::open_cluster::OpenCluster;
+use crate::open_reach::are_parted;
 use crate::plain::plain_lines_len;
-use crate::safe_run::{are_parted, push_safe};
+use crate::settled_run::{WINDOW, settled_len, unsafe_len};
 use nfg_text::{Kind, append_nfc, compose_pair, is_plain, starts_safely};
 use std::alloc::{AllocError, Global};
 use std::marker::Model;
@@ -120,37 +124,47 @@ impl Held {
         Some(c)
     }
 
-    /// Composes the tail, and goes on with it and with what begins the text, up to the last of the
-    /// code points at its front that start safely. Says where that one is.
-    fn settle_safe<S: ClusterSink>(
+    /// Composes the tail, and goes on with it and with the first `n` code points of the text, which are settled.
+    fn settle_run<S: ClusterSink>(
         &mut self,
         text: &[u32],
+        n: usize,
+        ids: &[u8],
         out: &mut S,
-    ) -> Result<usize, AllocError>
+    ) -> Result<(), AllocError>
         requires text { IsText text.now }
-        requires some { 0 < length text.now }
+        requires within { n < length text.now }
         requires first { starts_safely (slice_index_or text.now 0 0) ≡ true }
+        requires settled { IsSettledText (take n text.now) }
+        requires ids { ids.now ≡ map id_number (take n text.now) }
+        requires few { n ≤ 256 }
         ensures settled { (cluster : List ℕ) → Keeps self.old.now.cluster cluster
-            → IfOk result (λ n. (Keeps self.new.now.cluster (next_all cluster (nfc (self.old.now.tail ++ take n text.now))))
+            → OnOk result ((Keeps self.new.now.cluster (next_all cluster (nfc (self.old.now.tail ++ take n text.now))))
             × (self.new.now.tail ≡ [])
             × (S.given out.new ≡ with_clusters (S.given out.old) (closed_all cluster (nfc (self.old.now.tail ++ take n text.now))))) }
-        ensures safe { IfOk result (λ n. (n < length text.now) × (starts_safely (slice_index_or text.now n 0) ≡ true)) }
         ensures marked { self.new.marked ≡ self.old.marked }
         ensures grew { Grew (S.given out.old) (S.given out.new) }
     {
         self.settle(out)?;
-        if !goes_on_safely(text) {
-            return Ok(0);
-        }
-        let n = push_safe(&mut self.cluster, text, out)?;
-        Ok(n)
+        push_settled(&mut self.cluster, &text[..n], ids, out)?;
+        Ok(())
     }
 
-    /// Goes on with code points that start safely, which settle what is held. Says with how many.
-    fn take_safe<S: ClusterSink>(&mut self, text: &[u32], out: &mut S) -> Result<usize, AllocError>
+    /// Goes on with the first `n` code points of the text, which are settled, and with the next. Says how many these are.
+    fn take_run<S: ClusterSink>(
+        &mut self,
+        text: &[u32],
+        n: usize,
+        ids: &[u8],
+        out: &mut S,
+    ) -> Result<usize, AllocError>
         requires text { IsText text.now }
-        requires some { 0 < length text.now }
+        requires within { n < length text.now }
         requires first { starts_safely (slice_index_or text.now 0 0) ≡ true }
+        requires settled { IsSettledText (take n text.now) }
+        requires ids { ids.now ≡ map id_number (take n text.now) }
+        requires few { n ≤ 256 }
+        requires safe { starts_safely (slice_index_or text.now n 0) ≡ true }
         ensures follows { (fed : List ℕ) (given : List (List ℕ)) → Tracks self.old.now fed given
             → IfOk result (λ n. (more : List (List ℕ)) × (Follows self.new.now (fed ++ take n text.now) (given ++ more))
             × (S.given out.new ≡ with_clusters (S.given out.old) more)) }
@@ -158,16 +172,16 @@ impl Held {
         ensures marked { self.new.marked ≡ self.old.marked }
         ensures grew { Grew (S.given out.old) (S.given out.new) }
     {
-        let at = self.settle_safe(text, out)?;
-        let c = to_char(text[at]);
+        self.settle_run(text, n, ids, out)?;
+        let c = to_char(text[n]);
         if c == '\n' {
             self.cluster.push(c, out)?;
             self.cluster.close(out)?;
-            return Ok(at + 1);
+            return Ok(n + 1);
         }
         self.cluster.close_before(c, Kind::of(c), out)?;
         self.tail.push(c)?;
-        Ok(at + 1)
+        Ok(n + 1)
     }
 
     /// Goes on with a code point that composes with the one that is the tail. Says whether it does;
@@ -228,7 +242,7 @@ impl Held {
         }
     }
 
-    /// Goes on with code points that start safely, one or a row. Says with how many.
+    /// Goes on with code points of which the first starts safely, one or a settled run. Says with how many.
     fn take_next_safe<S: ClusterSink>(
         &mut self,
         text: &[u32],
@@ -244,13 +258,15 @@ impl Held {
         ensures marked { self.new.marked ≡ self.old.marked }
         ensures grew { Grew (S.given out.old) (S.given out.new) }
     {
-        if goes_on_safely(text) {
-            return self.take_safe(text, out);
+        let mut ids = [0; WINDOW];
+        let n = settled_len(text, &mut ids);
+        if n > 0 {
+            return self.take_run(text, n, &ids[..n], out);
         }
         if self.replace_single(to_char(text[0]), out)? {
             return Ok(1);
         }
-        self.take_safe(text, out)
+        self.take_run(text, 0, &[], out)
     }
 
     /// Goes on with some of a text of any kind, and says with how much.
@@ -386,30 +402,4 @@ impl Held {
         self.cluster.close(out)?;
         Ok(())
     }
-}
-
-/// Whether the text has a second code point that starts safely.
-#[inline]
-fn goes_on_safely(text: &[u32]) -> bool
-    requires { IsText text.now }
-{
-    if text.len() < 2 {
-        return false;
-    }
-    starts_safely(text[1])
-}
-
-/// How many code points that do not start safely the text begins with.
-fn unsafe_len(text: &[u32]) -> usize
-    requires { IsText text.now }
-    ensures within { result ≤ length text.now }
-    ensures none { none_safe (take result text.now) ≡ true }
-    ensures next { result < length text.now → starts_safely (slice_index_or text.now result 0) ≡ true }
-{
-    for i in 0..text.len() {
-        if starts_safely(text[i]) {
-            return i;
-        }
-    }
-    text.len()
 }

@@ -8,10 +8,12 @@ pub use sink::ClusterSink;
 mod clusters;
 mod draft;
 mod held;
+mod marked_run;
 mod open_cluster;
+mod open_reach;
 mod plain;
-mod safe_run;
 mod segmenter;
+mod settled_run;
 mod sink;
 #[cfg(test)]
 mod tests;

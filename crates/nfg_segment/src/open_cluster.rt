@@ -254,7 +254,7 @@ impl OpenCluster {
 }
 
 /// Gives out a cluster.
-fn give_slice<S: ClusterSink>(cluster: &[u32], out: &mut S) -> Result<(), AllocError>
+pub(crate) fn give_slice<S: ClusterSink>(cluster: &[u32], out: &mut S) -> Result<(), AllocError>
     requires text { IsText cluster.now }
     requires some { 0 < length cluster.now }
     ensures given { OnOk result (S.given out.new ≡ with_cluster (S.given out.old) cluster.now) }
