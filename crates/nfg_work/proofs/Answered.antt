@@ -125,14 +125,14 @@ drop-at (x ∷ script) zero numbered e = let same : x ≡ numbered = cc in ap (�
 drop-at (x ∷ script) (suc k) numbered e =
     let more : suc k + 1 ≡ suc (k + 1) = omega arith in drop-at script k numbered e ∙ ap (λ n. numbered ∷ drop n (x ∷ script)) (sym more)
 
-drop-past : (script : List NumberedCommand) (k : ℕ) → length script ≤ k → drop k script ≡ []
+pub drop-past : (script : List NumberedCommand) (k : ℕ) → length script ≤ k → drop k script ≡ []
 drop-past [] zero past = refl
 drop-past [] (suc k) past = refl
 drop-past (x ∷ script) zero past = absurd (omega (arith, past))
 drop-past (x ∷ script) (suc k) past = drop-past script k (omega (arith, past))
 
 -- what a step leads to
-abbrev behind : (places : ℕ) → NumberedCommand → List NumberedCommand → (output : List ℕ) → Result State Cause → Output
+abbrev pub behind : (places : ℕ) → NumberedCommand → List NumberedCommand → (output : List ℕ) → Result State Cause → Output
 behind places numbered script output result = elim result [
   | Ok next ↦ evaluate_from places next script
   | Err cause ↦ record {

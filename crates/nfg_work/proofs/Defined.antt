@@ -150,6 +150,12 @@ over_follows : (places cost : ℕ) (pass after : Seen) (reads : List FileRead) (
 over_follows places cost pass after reads old new stop value state h e is same =
     rw is (define_value-over places state cost value (spent_same cost pass.known reads old state true h e), same)
 
+-- a text that costs too much, before anything is made
+pub value_over : (places cost : ℕ) (pass : Seen) (reads : List FileRead) (old new : Evaluation) (value : Value) (state : State) → Holds pass.known reads old state
+    → nat_lt 536870912 (old.spent + cost) ≡ true → new.output ≡ old.output
+    → Follows places pass pass reads state.used old new (Err (Refused AllTooLong)) (define_value places state cost value)
+value_over places cost pass reads old new value state h e same = over_follows places cost pass pass reads old new (Refused AllTooLong) value state h e refl same
+
 pub file_over : (places cost : ℕ) (pass after : Seen) (reads : List FileRead) (old new : Evaluation) (string : Rope)
     (decoded : Decoded) (state : State) → Holds pass.known reads old state → nat_lt 536870912 (old.spent + cost) ≡ true
     → IsMadeOf (file_value decoded) pass after (Ok string) → new.output ≡ old.output

@@ -19,7 +19,7 @@ use Rattle.nfg_work.proofs.Wanted.{unless_many-few}
 use Rattle.nfg_work.proofs.Defined.{spent_same, made_follows, stopped_follows}
 
 -- the tests behind a refusal
-by_tests : (over much : Bool) (cause : Cause)
+pub by_tests : (over much : Bool) (cause : Cause)
     → (if over then Some StringTooLong else (if much then Some AllTooLong else None)) ≡ Some cause
     → ((over ≡ true) × (cause ≡ StringTooLong)) ⊎ ((over ≡ false) × (much ≡ true) × (cause ≡ AllTooLong))
 by_tests true much cause e = inl (refl, cc)

@@ -1,8 +1,8 @@
 -- Levels, one command after another.
-use Rattle.std.proofs.Common.{◌≡◌, ℕ, ◌+◌, ◌<◌, List, [], ◌∷◌, ◌++◌, length, drop, slice_get, IfSome, sym, ap, ◌∙◌, append_assoc}
+use Rattle.std.proofs.Common.{◌≡◌, ℕ, suc, ◌+◌, ◌<◌, List, [], ◌∷◌, ◌++◌, length, drop, slice_get, IfSome, refl, sym, ap, ◌∙◌, append_assoc}
 use Rattle.nfg_script.specs.declared.command.Command.{Command}
 use Rattle.nfg_script.specs.Script.{NumberedCommand}
-use Rattle.nfg_work.specs.Levels.{command_level, names_with, levels_from}
+use Rattle.nfg_work.specs.Levels.{command_level, names_with, levels_from, levels}
 use Rattle.nfg_work.proofs.Answered.{command_at, command_is, drop-at}
 
 -- the level of one command more
@@ -19,3 +19,13 @@ leveled_next script k level list names longer more command within is level_is ad
     let names_are : more ≡ behind = named ∙ (λ i. names_with names (same i) (here i)) in
     (λ i. added i ++ levels_from (names_are i) rest) ∙ append_assoc list (level ∷ []) (levels_from behind rest)
     ∙ ap (λ n. list ++ n ∷ levels_from behind rest) here ∙ ap (λ v. list ++ levels_from names v) (sym (drop-at script k at.0 at.1)) ∙ so_far
+
+length-levels_from : (names : List ℕ) (script : List NumberedCommand) → length (levels_from names script) ≡ length script
+length-levels_from names [] = refl
+length-levels_from names (numbered ∷ script) =
+    ap (λ n. suc n) (length-levels_from (names_with names numbered.command (command_level names numbered.command)) script)
+
+-- there is a level for each command
+pub length-levels : (script : List NumberedCommand) → length (levels script) ≡ length script
+unfolding levels
+length-levels script = length-levels_from [] script

@@ -20,3 +20,17 @@ pub mod JoinedValues
 pub mod FailedReads
 pub mod Leveled
 pub mod Reached
+pub mod Taken
+pub mod Brought
+pub mod Outcomes
+pub mod InOrder
+pub mod Sharing
+pub mod Stepped
+pub mod ReachedAt
+pub mod ReachedInNfg
+pub mod JobsDone
+pub mod PlanMade
+pub mod SharedRuns
+pub mod GivenOutcomes
+pub mod MetWorkers
+pub mod RightOutcomes

@@ -20,6 +20,7 @@ use Rattle.nfg_work.specs.declared.stop.Stop.TheVariants.{Refused, RowFull, NoPo
 use Rattle.nfg_work.specs.Values.{Value, no_value, part}
 use Rattle.nfg_work.specs.Evaluation.{State, value_of, load, define_decoded, define_part}
 use Rattle.nfg_work.specs.Holding.{IsStringOf, Holds, IsHeld, Does, Follows, IsDefined}
+use Rattle.nfg_work.specs.Given.{IsPartOf}
 use Rattle.nfg_work.proofs.Narrow.{at_most_same}
 use Rattle.nfg_work.proofs.Strings.{AreStringsOf-at, AreStringsOf-push}
 
@@ -32,6 +33,14 @@ Follows-same places pass after reads used old other new (Err RowFull) step same 
 Follows-same places pass after reads used old other new (Err NoPortion) step same f = (f.0, f.1 ∙ same)
 Follows-same places pass after reads used old other new (Err OutOfMemory) step same f = tt
 
+-- what is left to be read begins with the bytes that were found
+pub read_next : (known : Texts) (reads : List FileRead) (held : Evaluation) (read : FileRead) (bytes slice : List ℕ) (state : State)
+    → Holds known reads held state → held.next_read < length reads → read ≡ get_or reads held.next_read read → read ≡ Bytes bytes → slice ≡ bytes
+    → state.reads ≡ Bytes slice ∷ drop (held.next_read + 1) reads
+read_next known reads held read bytes slice state h within found is same =
+    let more : suc held.next_read ≡ held.next_read + 1 = omega arith in
+    sym h.left ∙ drop-cons reads held.next_read read within ∙ (λ i. (sym found ∙ is ∙ ap (λ b. Bytes b) (sym same)) i ∷ drop (more i) reads)
+
 -- a load does what the next of what was read asks for
 pub read_follows : (places : ℕ) (pass after : Seen) (reads : List FileRead) (held new : Evaluation) (result : Result (Unit {0}) Stop) (e : Encoding) (read : FileRead) (bytes slice : List ℕ) (state : State)
     → Holds pass.known reads held state → held.next_read < length reads → read ≡ get_or reads held.next_read read → read ≡ Bytes bytes → slice ≡ bytes
@@ -40,9 +49,7 @@ pub read_follows : (places : ℕ) (pass after : Seen) (reads : List FileRead) (h
     → Follows places pass after reads state.used held new result (load places state e state.reads)
 read_follows places pass after reads held new result e read bytes slice state h within found is same done =
     let rest = drop (held.next_read + 1) reads in
-    let more : suc held.next_read ≡ held.next_read + 1 = omega arith in
-    let reads_are : state.reads ≡ Bytes slice ∷ rest =
-    sym h.left ∙ drop-cons reads held.next_read read within ∙ (λ i. (sym found ∙ is ∙ ap (λ b. Bytes b) (sym same)) i ∷ drop (more i) reads) in
+    let reads_are = read_next pass.known reads held read bytes slice state h within found is same in
     let next : State = record state { reads = rest } in
     let holds : Holds pass.known reads (record held { next_read = held.next_read + 1 }) next = record {
       strings = h.strings;
@@ -130,6 +137,15 @@ inside_test : (known : Texts) (string : Rope) (value : Value) (start : ℕ) → 
 inside_test known string value start is inside =
     let long = Represents-length known string.graphemes value.clusters is.represents in
     le-ltb (length value.clusters) start (omega (arith, long, inside))
+
+-- a part that is not made
+pub part_stopped : (known : Texts) (reads : List FileRead) (held : Evaluation) (state : State) (string : Rope) (value : Value) (start count : ℕ) (stop : Stop)
+    → IsStringOf known string value → IsPartOf known string value start count (Err stop) → Does known reads state.used held held (Err stop) (define_part state value start count)
+part_stopped known reads held state string value start count (Refused cause) is stopped =
+    (part_outside known state string value start count is stopped.1 ∙ ap (λ c. Err c) (sym stopped.0), refl)
+part_stopped known reads held state string value start count RowFull is stopped = stopped
+part_stopped known reads held state string value start count NoPortion is stopped = stopped
+part_stopped known reads held state string value start count OutOfMemory is stopped = tt
 
 -- a part that costs too much
 pub part_over : (cost : ℕ) (known : Texts) (reads : List FileRead) (held : Evaluation) (state : State) (string made : Rope) (value : Value) (start count : ℕ)

@@ -21,22 +21,22 @@ use Rattle.nfg_work.specs.Laws.{state_after}
 use Rattle.nfg_work.specs.Reach.{Reached, if_short, decoded_value, load_value, cat_value, rep_value, sub_value, value_of, files_behind, reach_step, reached_from, values_of, ValuesAreReached}
 
 -- what the lines behind a step lead to
-abbrev rest_of : (places : ℕ) → List NumberedCommand → Result State Cause → Result State Cause
+abbrev pub rest_of : (places : ℕ) → List NumberedCommand → Result State Cause → Result State Cause
 rest_of places lines result = elim result [
   | Ok next ↦ state_after places next lines
   | Err cause ↦ Err cause
 ]
 
 -- each value of the state is there
-abbrev there : List Value → List (Option Value)
+abbrev pub there : List Value → List (Option Value)
 there values = map (λ value. Some value) values
 
 -- the names have reached the values of the state, and the same files are left
-record HasReached (reached : Reached) (state : State) : Type 0 where
-  values : reached.values ≡ there state.values
-  reads : reached.reads ≡ state.reads
+pub record HasReached (reached : Reached) (state : State) : Type 0 where
+  pub values : reached.values ≡ there state.values
+  pub reads : reached.reads ≡ state.reads
 
-there-at : (values : List Value) (name : ℕ) → slice_index_or (there values) name (Some no_value) ≡ Some (slice_index_or values name no_value)
+pub there-at : (values : List Value) (name : ℕ) → slice_index_or (there values) name (Some no_value) ≡ Some (slice_index_or values name no_value)
 there-at [] name = refl
 there-at (v ∷ values) zero = refl
 there-at (v ∷ values) (suc name) = there-at values name
@@ -138,7 +138,7 @@ put_reached : (reached : Reached) (state : State) (bytes : List ℕ) (first : Op
 put_reached reached state bytes None has = printed_reached reached state bytes has
 put_reached reached state bytes (Some at) has = tt
 
-step_reached : (places : ℕ) (reached : Reached) (state : State) (numbered : NumberedCommand) (command : Command) → HasReached reached state
+pub step_reached : (places : ℕ) (reached : Reached) (state : State) (numbered : NumberedCommand) (command : Command) → HasReached reached state
     → IfOk (step places state numbered command) (HasReached (reach_step reached numbered command))
 step_reached places reached state numbered (Load name e) has =
     let P : List FileRead → Type 0 =

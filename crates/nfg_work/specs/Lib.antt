@@ -3,6 +3,14 @@ pub mod Printing
 pub mod Evaluation
 pub mod Holding
 pub mod Making
+pub mod Outcomes
+pub mod Given
+pub mod Answers
+pub mod Recording
+pub mod Workers
+pub mod Sharing
+pub mod Planned
+pub mod Jobs
 pub mod Laws
 pub mod Levels
 pub mod Reach

@@ -5,6 +5,7 @@ ghost use Rattle.nfg_work.specs.Evaluation.{evaluate, AreWithinLimit};
 ghost use Rattle.nfg_work.specs.Holding.{IsEnd, cause_of as cause_of_stop};
 
 use crate::evaluation::Evaluation;
+use crate::outcome::Outcome;
 use crate::stepping::step;
 use crate::stop::Stop;
 use crate::{Cause, FileRead, Output, RefusedLine};
@@ -58,7 +59,10 @@ pub fn run_alone(
         next_read: 0,
     };
     'running: for k in 0..script.len() {
-        match step(alloc, &table, &mut pass, &mut held, script, k, reads) {
+        let outcome = Outcome::Nothing;
+        match step(
+            alloc, &table, &mut pass, &mut held, script, k, reads, outcome,
+        ) {
             Ok(()) => {}
             Err(stop) => return ended(held.output, script.line(k), stop),
         }

@@ -6,15 +6,17 @@ ghost use Rattle.nfg_work.specs.declared.output.FileRead.{FileRead};
 ghost use Rattle.nfg_work.specs.Printing.{place_text, truth_text, order_text};
 ghost use Rattle.nfg_work.specs.Evaluation.{State, value_of, are_equivalent, print_line};
 ghost use Rattle.nfg_work.specs.Holding.{Holds, IsHeld, Does};
+ghost use Rattle.nfg_work.specs.Given.{IsAlreadyFound};
 
 use crate::evaluation::Evaluation;
+use crate::given_answers::{compare_given, equal_given, index_given, rindex_given};
 use crate::naming::string_of_name;
 use crate::printing::{order, place, truth};
 use crate::stop::Stop;
-use nfg_ops::{compare, equal, index, rindex};
 use nfg_strand::NString;
 use nfg_syn::Synthetics;
 use std::alloc::Global;
+use std::cmp::Ordering;
 
 /// Prints the least place, `at` or more, where a string stands in another.
 pub(crate) fn print_find<T: Synthetics>(
@@ -25,11 +27,13 @@ pub(crate) fn print_find<T: Synthetics>(
     a: u32,
     b: u32,
     at: u64,
+    given: Option<Option<u64>>,
 ) -> Result<(), Stop>
     requires table { T.is_of table.now pass.now }
     requires held { (reads : List FileRead) × IsHeld (T.seen pass.now).known reads held.old }
     ensures { (reads : List FileRead) (state : State)
         → Holds (T.seen pass.now).known reads held.old state
+        → IsAlreadyFound (first_place (value_of state a).clusters (value_of state b).clusters at) given
         → Does (T.seen pass.now).known reads state.used held.old held.new result
         (print_line state (place_text (first_place (value_of state a).clusters
         (value_of state b).clusters at))) }
@@ -37,7 +41,7 @@ pub(crate) fn print_find<T: Synthetics>(
     let nothing = NString::empty(alloc);
     let string = string_of_name(&held.strings, a, &nothing);
     let part = string_of_name(&held.strings, b, &nothing);
-    let found = index(table, pass, string, part, at);
+    let found = index_given(table, pass, string, part, at, given);
     place(alloc, found, &mut held.output)
 }
 
@@ -50,11 +54,13 @@ pub(crate) fn print_rfind<T: Synthetics>(
     a: u32,
     b: u32,
     at: u64,
+    given: Option<Option<u64>>,
 ) -> Result<(), Stop>
     requires table { T.is_of table.now pass.now }
     requires held { (reads : List FileRead) × IsHeld (T.seen pass.now).known reads held.old }
     ensures { (reads : List FileRead) (state : State)
         → Holds (T.seen pass.now).known reads held.old state
+        → IsAlreadyFound (last_place (value_of state a).clusters (value_of state b).clusters at) given
         → Does (T.seen pass.now).known reads state.used held.old held.new result
         (print_line state (place_text (last_place (value_of state a).clusters
         (value_of state b).clusters at))) }
@@ -62,7 +68,7 @@ pub(crate) fn print_rfind<T: Synthetics>(
     let nothing = NString::empty(alloc);
     let string = string_of_name(&held.strings, a, &nothing);
     let part = string_of_name(&held.strings, b, &nothing);
-    let found = rindex(table, pass, string, part, at);
+    let found = rindex_given(table, pass, string, part, at, given);
     place(alloc, found, &mut held.output)
 }
 
@@ -74,11 +80,13 @@ pub(crate) fn print_eq<T: Synthetics>(
     held: &mut Evaluation,
     a: u32,
     b: u32,
+    given: Option<bool>,
 ) -> Result<(), Stop>
     requires table { T.is_of table.now pass.now }
     requires held { (reads : List FileRead) × IsHeld (T.seen pass.now).known reads held.old }
     ensures { (reads : List FileRead) (state : State)
         → Holds (T.seen pass.now).known reads held.old state
+        → IsAlreadyFound (are_equivalent (value_of state a).clusters (value_of state b).clusters) given
         → Does (T.seen pass.now).known reads state.used held.old held.new result
         (print_line state (truth_text (are_equivalent (value_of state a).clusters
         (value_of state b).clusters))) }
@@ -86,7 +94,7 @@ pub(crate) fn print_eq<T: Synthetics>(
     let nothing = NString::empty(alloc);
     let left = string_of_name(&held.strings, a, &nothing);
     let right = string_of_name(&held.strings, b, &nothing);
-    let holds = equal(table, pass, left, right);
+    let holds = equal_given(table, pass, left, right, given);
     truth(holds, &mut held.output)
 }
 
@@ -98,6 +106,7 @@ pub(crate) fn print_cmp<T: Synthetics>(
     held: &mut Evaluation,
     a: u32,
     b: u32,
+    given: Option<Ordering>,
 ) -> Result<(), Stop>
     requires table { T.is_of table.now pass.old }
     requires held { (reads : List FileRead) × IsHeld (T.seen pass.old).known reads held.old }
@@ -105,6 +114,7 @@ pub(crate) fn print_cmp<T: Synthetics>(
     ensures asked { HasAsked (T.seen pass.old) (T.seen pass.new) }
     ensures printed { (reads : List FileRead) (state : State)
         → Holds (T.seen pass.old).known reads held.old state
+        → IsAlreadyFound (text_order (value_of state a).clusters (value_of state b).clusters) given
         → Does (T.seen pass.old).known reads state.used held.old held.new result
         (print_line state (order_text (text_order (value_of state a).clusters
         (value_of state b).clusters))) }
@@ -112,6 +122,6 @@ pub(crate) fn print_cmp<T: Synthetics>(
     let nothing = NString::empty(alloc);
     let left = string_of_name(&held.strings, a, &nothing);
     let right = string_of_name(&held.strings, b, &nothing);
-    let ordering = compare(table, pass, left, right);
+    let ordering = compare_given(table, pass, left, right, given);
     order(ordering, &mut held.output)
 }

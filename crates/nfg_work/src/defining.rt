@@ -4,20 +4,22 @@ ghost use Rattle.nfg_text.specs.Text.{IsText};
 ghost use Rattle.nfg_text.specs.Graphemes.{graphemes_of};
 ghost use Rattle.nfg_decode.specs.Encoding.{decode};
 ghost use Rattle.nfg_syn.specs.Known.{Texts, IsKnowledge};
+ghost use Rattle.nfg_work.specs.Values.{flat};
 ghost use Rattle.nfg_syn.specs.Seen.{Keeps, SameCounts};
 ghost use Rattle.nfg_work.specs.declared.output.FileRead.{FileRead};
 ghost use Rattle.nfg_work.specs.declared.stop.Stop.{Stop};
 ghost use Rattle.nfg_work.specs.Evaluation.{State, define_new, define_decoded, load as load_next, define_part, value_of, AreWithinLimit};
 ghost use Rattle.nfg_work.specs.Holding.{Holds, Does, Follows, IsDefined};
-ghost use Rattle.nfg_work.specs.Making.{IsStopAfter};
+ghost use Rattle.nfg_work.specs.Making.{IsStopAfter, unless_long, file_value};
+ghost use Rattle.nfg_work.specs.Given.{IsAlreadyMade, Brings, load_wanted, part_wanted};
+ghost use Rattle.nfg_work.specs.Reach.{if_short, decoded_value, load_value};
 
 use crate::evaluation::Evaluation;
-use crate::making::{string_of_file, string_of_text};
+use crate::given_strings::{file_given, part_given, text_given};
 use crate::naming::string_of_name;
 use crate::stop::Stop;
 use crate::{Cause, FileRead};
 use nfg_decode::Encoding;
-use nfg_ops::{SubError, substring};
 use nfg_strand::NString;
 use nfg_syn::Synthetics;
 use std::alloc::Global;
@@ -74,6 +76,7 @@ pub(crate) fn text<T: Synthetics>(
     pass: &mut T::Pass,
     held: &mut Evaluation,
     codes: &[u32],
+    given: Option<NString>,
 ) -> Result<(), Stop>
     requires text { IsText codes.now }
     requires table { T.is_of table.now pass.old }
@@ -82,14 +85,17 @@ pub(crate) fn text<T: Synthetics>(
     ensures counts { SameCounts (T.seen pass.old) (T.seen pass.new) }
     ensures defined { (reads : List FileRead) (state : State)
         → Holds (T.seen pass.old).known reads held.old state
+        → IsAlreadyMade (unless_long (flat (graphemes_of codes.now))) (T.seen pass.old).known given
         → Follows (T.size table.now) (T.seen pass.old) (T.seen pass.new) reads state.used held.old held.new result
         (define_new (T.size table.now) state (length codes.now) (graphemes_of codes.now)) }
+    ensures brings { IsAlreadyMade (unless_long (flat (graphemes_of codes.now))) (T.seen pass.old).known given
+        → Brings (if_short (flat (graphemes_of codes.now))) (T.seen pass.old) (T.seen pass.new) result }
 {
     let cost = codes.len() as u64;
     if is_over(held.spent, cost) {
         return Err(Stop::Refused(Cause::AllTooLong));
     }
-    match string_of_text(alloc, table, pass, codes) {
+    match text_given(alloc, table, pass, codes, given) {
         Ok(string) => define(held, cost, string),
         Err(stop) => Err(stop),
     }
@@ -103,6 +109,7 @@ fn load_file<T: Synthetics>(
     held: &mut Evaluation,
     e: Encoding,
     bytes: &[u8],
+    given: Option<NString>,
 ) -> Result<(), Stop>
     requires limit { length bytes.now ≤ 67108864 }
     requires table { T.is_of table.now pass.old }
@@ -111,12 +118,15 @@ fn load_file<T: Synthetics>(
     ensures counts { SameCounts (T.seen pass.old) (T.seen pass.new) }
     ensures loaded { (reads : List FileRead) (state : State)
         → Holds (T.seen pass.old).known reads held.old state
+        → IsAlreadyMade (file_value (decode e bytes.now)) (T.seen pass.old).known given
         → Follows (T.size table.now) (T.seen pass.old) (T.seen pass.new) reads state.used held.old held.new result
         (define_decoded (T.size table.now) state (length bytes.now) (decode e bytes.now)) }
+    ensures brings { IsAlreadyMade (file_value (decode e bytes.now)) (T.seen pass.old).known given
+        → Brings (decoded_value (decode e bytes.now)) (T.seen pass.old) (T.seen pass.new) result }
 {
     let cost = bytes.len() as u64;
     let over = is_over(held.spent, cost);
-    match string_of_file(alloc, table, pass, e, bytes) {
+    match file_given(alloc, table, pass, e, bytes, given) {
         Ok(string) => {
             if over {
                 return Err(Stop::Refused(Cause::AllTooLong));
@@ -135,6 +145,7 @@ pub(crate) fn load<T: Synthetics>(
     held: &mut Evaluation,
     e: Encoding,
     reads: &[FileRead],
+    given: Option<NString>,
 ) -> Result<(), Stop>
     requires reads { AreWithinLimit reads.now }
     requires table { T.is_of table.now pass.old }
@@ -142,8 +153,12 @@ pub(crate) fn load<T: Synthetics>(
     ensures keeps { Keeps (T.seen pass.old) (T.seen pass.new) }
     ensures counts { SameCounts (T.seen pass.old) (T.seen pass.new) }
     ensures loaded { (state : State) → Holds (T.seen pass.old).known reads.now held.old state
+        → IsAlreadyMade (load_wanted e state.reads) (T.seen pass.old).known given
         → Follows (T.size table.now) (T.seen pass.old) (T.seen pass.new) reads.now state.used held.old held.new result
         (load_next (T.size table.now) state e state.reads) }
+    ensures brings { (state : State) → Holds (T.seen pass.old).known reads.now held.old state
+        → IsAlreadyMade (load_wanted e state.reads) (T.seen pass.old).known given
+        → Brings (load_value e state.reads) (T.seen pass.old) (T.seen pass.new) result }
 {
     match reads.get(held.next_read) {
         None => Err(Stop::Refused(Cause::CannotRead)),
@@ -151,7 +166,7 @@ pub(crate) fn load<T: Synthetics>(
         Some(FileRead::TooLong) => Err(Stop::Refused(Cause::FileTooLong)),
         Some(FileRead::Bytes(bytes)) => {
             held.next_read += 1;
-            load_file(alloc, table, pass, held, e, bytes.as_slice())
+            load_file(alloc, table, pass, held, e, bytes.as_slice(), given)
         }
     }
 }
@@ -163,18 +178,19 @@ pub(crate) fn sub(
     a: u32,
     start: u64,
     count: u64,
+    given: Option<NString>,
 ) -> Result<(), Stop>
     ensures { (size : ℕ) (known places : Texts) (reads : List FileRead) (state : State)
         → IsKnowledge size known places → Holds known reads held.old state
+        → IsAlreadyMade (part_wanted (value_of state a) start count) known given
         → Does known reads state.used held.old held.new result
         (define_part state (value_of state a) start count) }
 {
     let nothing = NString::empty(alloc);
     let string = string_of_name(&held.strings, a, &nothing);
-    let part = match substring(alloc, string, start, count) {
+    let part = match part_given(alloc, string, start, count, given) {
         Ok(part) => part,
-        Err(SubError::OutOfRange) => return Err(Stop::Refused(Cause::OutOfRange)),
-        Err(SubError::OutOfMemory) => return Err(Stop::OutOfMemory),
+        Err(stop) => return Err(stop),
     };
     let cost = part.len();
     if is_over(held.spent, cost) {

@@ -4,11 +4,14 @@ ghost use Rattle.nfg_syn.specs.Seen.{Keeps, SameCounts};
 ghost use Rattle.nfg_work.specs.declared.output.FileRead.{FileRead};
 ghost use Rattle.nfg_work.specs.Evaluation.{State, define_cat, define_rep, value_of};
 ghost use Rattle.nfg_work.specs.Holding.{Holds, IsHeld, Follows, join_refusal};
+ghost use Rattle.nfg_work.specs.Making.{cat_wanted, rep_wanted};
+ghost use Rattle.nfg_work.specs.Given.{IsAlreadyMade, Brings};
+ghost use Rattle.nfg_work.specs.Reach.{cat_value, rep_value};
 
 use crate::Cause;
 use crate::defining::{define, is_over};
 use crate::evaluation::Evaluation;
-use crate::making::{string_of_both, string_of_copies};
+use crate::given_strings::{both_given, copies_given};
 use crate::naming::string_of_name;
 use crate::stop::Stop;
 use nfg_strand::NString;
@@ -39,6 +42,7 @@ pub(crate) fn cat<T: Synthetics>(
     held: &mut Evaluation,
     a: u32,
     b: u32,
+    given: Option<NString>,
 ) -> Result<(), Stop>
     requires table { T.is_of table.now pass.old }
     requires held { (reads : List FileRead) × IsHeld (T.seen pass.old).known reads held.old }
@@ -47,8 +51,14 @@ pub(crate) fn cat<T: Synthetics>(
     ensures counts { SameCounts (T.seen pass.old) (T.seen pass.new) }
     ensures joined { (reads : List FileRead) (state : State)
         → Holds (T.seen pass.old).known reads held.old state
+        → IsAlreadyMade (cat_wanted (value_of state a) (value_of state b)) (T.seen pass.old).known given
         → Follows (T.size table.now) (T.seen pass.old) (T.seen pass.new) reads state.used held.old held.new result
         (define_cat (T.size table.now) state (value_of state a) (value_of state b)) }
+    ensures brings { (reads : List FileRead) (state : State)
+        → Holds (T.seen pass.old).known reads held.old state
+        → IsAlreadyMade (cat_wanted (value_of state a) (value_of state b)) (T.seen pass.old).known given
+        → Brings (cat_value (Some (value_of state a)) (Some (value_of state b)))
+        (T.seen pass.old) (T.seen pass.new) result }
 {
     let nothing = NString::empty(alloc);
     let left = string_of_name(&held.strings, a, &nothing);
@@ -57,7 +67,7 @@ pub(crate) fn cat<T: Synthetics>(
     if let Some(cause) = join_refusal(held.spent, count) {
         return Err(Stop::Refused(cause));
     }
-    match string_of_both(alloc, table, pass, left, right) {
+    match both_given(alloc, table, pass, left, right, given) {
         Ok(string) => define(held, count, string),
         Err(stop) => Err(stop),
     }
@@ -71,6 +81,7 @@ pub(crate) fn rep<T: Synthetics>(
     held: &mut Evaluation,
     a: u32,
     times: u64,
+    given: Option<NString>,
 ) -> Result<(), Stop>
     requires table { T.is_of table.now pass.old }
     requires held { (reads : List FileRead) × IsHeld (T.seen pass.old).known reads held.old }
@@ -79,8 +90,14 @@ pub(crate) fn rep<T: Synthetics>(
     ensures counts { SameCounts (T.seen pass.old) (T.seen pass.new) }
     ensures joined { (reads : List FileRead) (state : State)
         → Holds (T.seen pass.old).known reads held.old state
+        → IsAlreadyMade (rep_wanted (value_of state a) times) (T.seen pass.old).known given
         → Follows (T.size table.now) (T.seen pass.old) (T.seen pass.new) reads state.used held.old held.new result
         (define_rep (T.size table.now) state (value_of state a) times) }
+    ensures brings { (reads : List FileRead) (state : State)
+        → Holds (T.seen pass.old).known reads held.old state
+        → IsAlreadyMade (rep_wanted (value_of state a) times) (T.seen pass.old).known given
+        → Brings (rep_value (Some (value_of state a)) times)
+        (T.seen pass.old) (T.seen pass.new) result }
 {
     let nothing = NString::empty(alloc);
     let string = string_of_name(&held.strings, a, &nothing);
@@ -91,7 +108,7 @@ pub(crate) fn rep<T: Synthetics>(
     if let Some(cause) = join_refusal(held.spent, count) {
         return Err(Stop::Refused(cause));
     }
-    match string_of_copies(alloc, table, pass, string, times) {
+    match copies_given(alloc, table, pass, string, times, given) {
         Ok(string) => define(held, count, string),
         Err(stop) => Err(stop),
     }

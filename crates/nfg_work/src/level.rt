@@ -71,7 +71,7 @@ fn command_level(names: &[u32], command: Command) -> Result<u32, AllocError>
 }
 
 /// Whether the command defines a name.
-fn defines(command: Command) -> bool
+pub(crate) fn defines(command: Command) -> bool
     ensures { result ≡ is_definition command }
 {
     match command {

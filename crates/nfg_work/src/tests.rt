@@ -2,6 +2,7 @@
 ghost use Rattle.std.specs.Prelude.{◌≤◌, length};
 ghost use Rattle.nfg_work.specs.Evaluation.{AreWithinLimit};
 
+use crate::level_jobs::jobs_by_level;
 use crate::{Cause, FileRead, Gate, LevelList, OpenGate, Output, RefusedLine, levels, run_alone};
 use nfg_script::parse;
 use nfg_text::ByteList;
@@ -125,6 +126,22 @@ fn a_command_stands_above_those_that_define_its_names(rt: HostRuntime) -> Result
     };
     assert!(rt; list.as_slice() == [0, 0, 0, 1, 2, 2, 3].as_slice());
     assert!(rt; list.len() == 7);
+    Ok(())
+}
+
+#[test]
+fn each_level_has_its_jobs_in_order(rt: HostRuntime) -> Result<(), Fail> {
+    let script =
+        b"text a 1100\ntext b 1161\ncat c a b\nshow c\nlen a\neq a b\nsub d c 0 1\nput d utf8\nfind d c 0\n";
+    let lists = match parse(rt.alloc(), script.as_slice()) {
+        Ok(script) => jobs_by_level(rt.alloc(), &script)?,
+        Err(_) => Err("the script is refused")?,
+    };
+    assert!(rt; lists.len() == 4);
+    let wanted: [&[u32]; 4] = [&[0, 1], &[2, 5], &[6], &[8]];
+    for (list, jobs) in lists.iter().zip(wanted) {
+        assert!(rt; list.as_slice() == jobs);
+    }
     Ok(())
 }
 

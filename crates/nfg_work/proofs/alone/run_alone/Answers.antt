@@ -20,7 +20,7 @@ returns-in-Err c =
     let at = command_at c.args.script.now c.running.k within in
     let own = subst (λ n. IsOwnPass n c.step.new.pass) size c.in-Err.ensures.table in
     let f = subst (λ n. Follows n (seen_of c.running.pass) (seen_of c.step.new.pass) c.args.reads.now r.state.used c.running.held c.step.new.held (Err c.in-Err.stop) (step n r.state at.0 at.0.command)) size
-    (c.in-Err.ensures.done at.0 r.state at.1 r.holds) in
+    (c.in-Err.ensures.done at.0 r.state at.1 r.holds tt) in
     ended_is c.args.n c.args.script.now c.args.reads.now c.running.pass c.step.new.pass c.running.held c.step.new.held c.running.k at.0 c.in-Err.stop c.line.result r c.ended.result
     at.1 (line_at c.args.script.now c.running.k c.line.result at.0 at.1 c.line.ensures) own f c.ended.ensures
 
@@ -32,5 +32,5 @@ running-preserved c =
     let at = command_at c.args.script.now c.running.k within in
     let own = subst (λ n. IsOwnPass n c.step.new.pass) size c.in-Ok.ensures.table in
     let f = subst (λ n. Follows n (seen_of c.running.pass) (seen_of c.step.new.pass) c.args.reads.now r.state.used c.running.held c.step.new.held (Ok tt) (step n r.state at.0 at.0.command)) size
-    (c.in-Ok.ensures.done at.0 r.state at.1 r.holds) in
+    (c.in-Ok.ensures.done at.0 r.state at.1 r.holds tt) in
     running_next c.args.n c.args.script.now c.args.reads.now c.running.pass c.step.new.pass c.running.held c.step.new.held c.running.k at.0 r at.1 own f
