@@ -3,7 +3,7 @@ use Rattle.std.proofs.Common.{◌≡◌, ℕ, zero, suc, ◌+◌, ◌≤◌, ◌
 use Rattle.std.proofs.lemmas.Bool.Decides.{nat_tests}
 use Rattle.nfg_syn.specs.Known.{IsRowSize}
 use Rattle.nfg_run.specs.declared.said.Said.{Said}
-use Rattle.nfg_run.specs.CommandLine.{Table, number_of, if_passes, is_power_from, is_table_size, option_number, places_of, or_default, run_of, gen_of, gen_by, path_of, is_seed, is_count, workers_of, Run}
+use Rattle.nfg_run.specs.CommandLine.{OptionName, Workers, Table, IsWorkerCount, is_worker_count, number_of, if_passes, is_power_from, is_table_size, option_number, places_of, or_default, run_of, gen_of, gen_by, path_of, is_seed, is_count, workers_of, Run}
 use Rattle.nfg_run.specs.WordTexts.{given_number}
 use Rattle.nfg_run.proofs.ClapRows.{some≢none}
 use Rattle.nfg_run.proofs.GatheredWords.{inner}
@@ -41,17 +41,17 @@ IfSome-if_passes : (test : ℕ → Bool) (P : ℕ → Type 0) → ((n : ℕ) →
 IfSome-if_passes test P f None = tt
 IfSome-if_passes test P f (Some n) = passes test P f n (test n) refl
 
-sized-number : (number places : Option ℕ) → IfSome number IsRowSize → option_map (λ n. Some n) number ≡ Some places → IfSome places IsRowSize
-sized-number None places size e = absurd (some≢none places (sym e))
-sized-number (Some number) None size e = tt
-sized-number (Some number) (Some places) size e = subst (λ o. IfSome o IsRowSize) (ap inner e) size
+holds-number : (P : ℕ → Type 0) (number given : Option ℕ) → IfSome number P → option_map (λ n. Some n) number ≡ Some given → IfSome given P
+holds-number P None given holds e = absurd (some≢none given (sym e))
+holds-number P (Some number) None holds e = tt
+holds-number P (Some number) (Some given) holds e = subst (λ o. IfSome o P) (ap inner e) holds
 
--- the places that are given are a size of the table
-sized-given : (text : Option (List ℕ)) (places : Option ℕ) → given_number Table text ≡ Some places → IfSome places IsRowSize
-sized-given None None e = tt
-sized-given None (Some places) e = absurd (some≢none places (sym (ap inner e)))
-sized-given (Some text) places e =
-    sized-number (option_number Table text) places (IfSome-if_passes is_table_size IsRowSize IsRowSize-of (number_of text)) e
+-- what holds of all numbers of an option holds of the one that is given
+holds-given : (P : ℕ → Type 0) (name : OptionName) → ((word : List ℕ) → IfSome (option_number name word) P)
+    → (text : Option (List ℕ)) (given : Option ℕ) → given_number name text ≡ Some given → IfSome given P
+holds-given P name holds None None e = tt
+holds-given P name holds None (Some given) e = absurd (some≢none given (sym (ap inner e)))
+holds-given P name holds (Some text) given e = holds-number P (option_number name text) given (holds text) e
 
 default_size : IsRowSize 262144
 default_size = IsRowSize-of 262144 refl
@@ -60,9 +60,26 @@ places_sized : (places : Option ℕ) → IfSome places IsRowSize → IsRowSize (
 places_sized None size = default_size
 places_sized (Some number) size = size
 
+sized-word : (word : List ℕ) → IfSome (option_number Table word) IsRowSize
+sized-word word = IfSome-if_passes is_table_size IsRowSize IsRowSize-of (number_of word)
+
 -- the places, where their text is lawful or not given, are a size of the table
 pub IsRowSize-given : (text : Option (List ℕ)) (places : Option ℕ) → given_number Table text ≡ Some places → IsRowSize (or_default places 262144)
-IsRowSize-given text places e = places_sized places (sized-given text places e)
+IsRowSize-given text places e = places_sized places (holds-given IsRowSize Table sized-word text places e)
+
+IsWorkerCount-of : (number : ℕ) → is_worker_count number ≡ true → IsWorkerCount number
+IsWorkerCount-of number is = grind (arith, nat_tests)
+
+counted-word : (word : List ℕ) → IfSome (option_number Workers word) IsWorkerCount
+counted-word word = IfSome-if_passes is_worker_count IsWorkerCount IsWorkerCount-of (number_of word)
+
+workers_counted : (workers : Option ℕ) → IfSome workers IsWorkerCount → IsWorkerCount (or_default workers 4)
+workers_counted None count = (lit≤ tt, lit≤ tt)
+workers_counted (Some number) count = count
+
+-- the workers, where their text is lawful or not given, are 1 to 64
+pub IsWorkerCount-given : (text : Option (List ℕ)) (workers : Option ℕ) → given_number Workers text ≡ Some workers → IsWorkerCount (or_default workers 4)
+IsWorkerCount-given text workers e = workers_counted workers (holds-given IsWorkerCount Workers counted-word text workers e)
 
 -- `run` has no other count of plain words
 pub run_of-none : (said : Said) (plain : List (List ℕ)) → length plain ≢ 1 → run_of said plain ≡ None

@@ -1,5 +1,5 @@
 -- The words of the command line (this project's own). Each is a text in UTF-8.
-use Rattle.std.specs.Prelude.{ℕ, zero, suc, ◌^◌, Bool, not, ◌&&◌, ◌||◌, ◌==◌, nat_le, nat_lt, nat_eq, if◌then◌else◌, List, [], ◌∷◌, ◌++◌, length, drop, Option, Some, None, option_map, codes, bytes_eq}
+use Rattle.std.specs.Prelude.{ℕ, zero, suc, ◌^◌, ◌≤◌, Bool, not, ◌&&◌, ◌||◌, ◌==◌, nat_le, nat_lt, nat_eq, if◌then◌else◌, List, [], ◌∷◌, ◌++◌, length, drop, Option, Some, None, option_map, codes, bytes_eq}
 use Rattle.std.specs.List.{list_all, starts_with}
 use Rattle.std.specs.Char.{is_ascii_digit}
 use Rattle.std.specs.Str.Parse.{digits_value}
@@ -28,6 +28,10 @@ if_passes test (Some number) = if test number then Some number else None
 -- 1 to 64 workers
 abbrev pub is_worker_count : ℕ → Bool
 is_worker_count number = nat_le 1 number && nat_le number 64
+
+-- so many workers evaluate a script
+abbrev pub IsWorkerCount : ℕ → Type 0
+IsWorkerCount number = (1 ≤ number) × (number ≤ 64)
 
 -- one of the powers of two from 2^exponent to 2^(exponent + more)
 abbrev pub is_power_from : (exponent more : ℕ) → ℕ → Bool

@@ -2,12 +2,13 @@
 ghost use Rattle.std.specs.Prelude.{◌≡◌, ◌≢◌, ◌≤◌, ◌<◌, ◌^◌, IfOk, IsNone, None, Some, Err, List, [], ℕ, string_bytes};
 ghost use Rattle.nfg_syn.specs.Known.{IsRowSize};
 ghost use Rattle.nfg_script.specs.Grammar.{parse};
-ghost use Rattle.nfg_run.specs.CommandLine.{script_path, path_of, command_line, asked, run_of, gen_of, places_of, Run};
+ghost use Rattle.nfg_run.specs.CommandLine.{script_path, path_of, command_line, asked, run_of, gen_of, places_of, workers_of, IsWorkerCount, Run};
 ghost use Rattle.nfg_run.specs.Generator.{script_text};
 ghost use Rattle.nfg_run.specs.Answer.{answer_output, answer_script, answer_line, generated_reads, cause_text, cause_status};
 ghost use Rattle.nfg_run.specs.Answer.{reason_text as reason_told, refusal_text as refusal_told};
 ghost use Rattle.nfg_run.specs.Headline.{IsAnswered};
 
+use crate::evaluated::{Means, evaluated};
 use crate::generated_input::Generated;
 use crate::generator::generated;
 use crate::number::{read_count, read_seed};
@@ -17,8 +18,10 @@ use crate::{Cause, FileRead, Output, RefusedLine, Status, Words};
 use nfg_io::Files;
 use nfg_script::{Reason, ScriptError, parse};
 use nfg_text::ByteList;
-use nfg_work::run_alone;
+use nfg_work::Gate;
 use std::alloc::{AllocError, Global};
+use std::marker::Sync;
+use std::thread::Threads;
 
 /// What is printed where the words aren't lawful.
 const USAGE: &str =
@@ -35,10 +38,12 @@ pub(crate) struct Answer {
 }
 
 /// The answer to the words.
-pub(crate) fn answer_words<F: Files>(
+pub(crate) fn answer_words<R: Threads + Sync, F: Files, G: Gate>(
+    rt: &R,
     alloc: Global,
     words: &Words,
     files: &mut F,
+    gate: &G,
 ) -> Result<Answer, AllocError>
     ensures answered { IfOk result
         (IsAnswered words.now (F.state files.old) (F.state files.new)) }
@@ -48,37 +53,47 @@ pub(crate) fn answer_words<F: Files>(
         return text_answer(alloc, Status::Bad, USAGE);
     }
     match read_words(alloc, words) {
-        Ok(said) => answer_said(alloc, files, words.get(0), &said),
+        Ok(said) => answer_said(rt, alloc, files, words.get(0), &said, gate),
         Err(Unread::Unlawful) => text_answer(alloc, Status::Bad, USAGE),
         Err(Unread::OutOfMemory) => Err(AllocError),
     }
 }
 
 /// The answer to the first word and to what the others say.
-fn answer_said<F: Files>(
+fn answer_said<R: Threads + Sync, F: Files, G: Gate>(
+    rt: &R,
     alloc: Global,
     files: &mut F,
     command: &str,
     said: &Said,
+    gate: &G,
 ) -> Result<Answer, AllocError>
-    requires { IsRowSize (places_of said.now) }
+    requires workers { IsWorkerCount (workers_of said.now) }
+    requires places { IsRowSize (places_of said.now) }
     ensures answered { IfOk result (λ given. (words : List (List ℕ))
         → command_line words ≡ asked command.now (Some said.now)
         → IsAnswered words (F.state files.old) (F.state files.new) given) }
     ensures untouched { IsNone (path_of (asked command.now (Some said.now))) → files.new ≡ files.old }
 {
     if command == "run" {
-        return answer_run(alloc, files, said);
+        return answer_run(rt, alloc, files, said, gate);
     }
     if command == "gen" {
-        return answer_gen(alloc, said);
+        return answer_gen(rt, alloc, said, gate);
     }
     text_answer(alloc, Status::Bad, USAGE)
 }
 
 /// The answer to `run` with what is said.
-fn answer_run<F: Files>(alloc: Global, files: &mut F, said: &Said) -> Result<Answer, AllocError>
-    requires { IsRowSize (places_of said.now) }
+fn answer_run<R: Threads + Sync, F: Files, G: Gate>(
+    rt: &R,
+    alloc: Global,
+    files: &mut F,
+    said: &Said,
+    gate: &G,
+) -> Result<Answer, AllocError>
+    requires workers { IsWorkerCount (workers_of said.now) }
+    requires places { IsRowSize (places_of said.now) }
     ensures answered { IfOk result (λ given. (words : List (List ℕ))
         → command_line words ≡ run_of said.now said.now.plain
         → IsAnswered words (F.state files.old) (F.state files.new) given) }
@@ -87,12 +102,18 @@ fn answer_run<F: Files>(alloc: Global, files: &mut F, said: &Said) -> Result<Ans
     if said.plain.len() != 1 {
         return text_answer(alloc, Status::Bad, USAGE);
     }
-    answer_path(alloc, files, said.plain.get(0), said.places())
+    answer_path(rt, alloc, files, said.plain.get(0), said.means(), gate)
 }
 
 /// The answer to `gen` with what is said.
-fn answer_gen(alloc: Global, said: &Said) -> Result<Answer, AllocError>
-    requires { IsRowSize (places_of said.now) }
+fn answer_gen<R: Threads + Sync, G: Gate>(
+    rt: &R,
+    alloc: Global,
+    said: &Said,
+    gate: &G,
+) -> Result<Answer, AllocError>
+    requires workers { IsWorkerCount (workers_of said.now) }
+    requires places { IsRowSize (places_of said.now) }
     ensures { IfOk result (λ given. given ≡ answer_line (gen_of said.now said.now.plain) None []) }
 {
     if said.plain.len() != 2 {
@@ -104,17 +125,25 @@ fn answer_gen(alloc: Global, said: &Said) -> Result<Answer, AllocError>
     let Some(count) = read_count(said.plain.get(1)) else {
         return text_answer(alloc, Status::Bad, USAGE);
     };
-    answer_generated(alloc, seed, count, said.places())
+    answer_generated(rt, alloc, seed, count, said.means(), gate)
 }
 
 /// The answer to the script and the files that are generated.
-fn answer_generated(alloc: Global, seed: u32, count: u32, places: u32) -> Result<Answer, AllocError>
+fn answer_generated<R: Threads + Sync, G: Gate>(
+    rt: &R,
+    alloc: Global,
+    seed: u32,
+    count: u32,
+    means: Means,
+    gate: &G,
+) -> Result<Answer, AllocError>
     requires seed { seed < 2 ^ 31 }
     requires at_least { 1 ≤ count }
     requires at_most { count ≤ 2 ^ 20 }
-    requires places { IsRowSize places }
+    requires workers { IsWorkerCount means.workers }
+    requires places { IsRowSize means.places }
     ensures { IfOk result (λ given.
-        given ≡ answer_script places (parse script_text) (generated_reads seed count)) }
+        given ≡ answer_script means.places (parse script_text) (generated_reads seed count)) }
 {
     let Generated { script, a, b } = generated(alloc, seed, count)?;
     let mut reads = Vec::new(alloc);
@@ -123,22 +152,25 @@ fn answer_generated(alloc: Global, seed: u32, count: u32, places: u32) -> Result
     match parse(alloc, script.as_slice()) {
         Err(error) => refusal_answer(alloc, error),
         Ok(script) => {
-            let output = run_alone(alloc, &script, reads.as_slice(), places)?;
+            let output = evaluated(rt, alloc, &script, reads.as_slice(), means, gate)?;
             answer_to_output(alloc, output)
         }
     }
 }
 
-/// The answer where the words name this path and so many places.
-fn answer_path<F: Files>(
+/// The answer where the words name this path.
+fn answer_path<R: Threads + Sync, F: Files, G: Gate>(
+    rt: &R,
     alloc: Global,
     files: &mut F,
     path: &str,
-    places: u32,
+    means: Means,
+    gate: &G,
 ) -> Result<Answer, AllocError>
-    requires { IsRowSize places }
-    ensures { IfOk result (λ given. (words : List (List ℕ)) (workers : ℕ)
-        → command_line words ≡ Some (Run workers places path.now)
+    requires workers { IsWorkerCount means.workers }
+    requires places { IsRowSize means.places }
+    ensures { IfOk result (λ given. (words : List (List ℕ))
+        → command_line words ≡ Some (Run means.workers means.places path.now)
         → IsAnswered words (F.state files.old) (F.state files.new) given) }
 {
     let mut buffer: Buffer = [0; PIECE];
@@ -153,7 +185,7 @@ fn answer_path<F: Files>(
         Err(error) => refusal_answer(alloc, error),
         Ok(script) => {
             let reads = read_loads(alloc, files, &mut buffer, &script)?;
-            let output = run_alone(alloc, &script, reads.as_slice(), places)?;
+            let output = evaluated(rt, alloc, &script, reads.as_slice(), means, gate)?;
             answer_to_output(alloc, output)
         }
     }

@@ -139,6 +139,10 @@ fn the_table_has_just_so_many_places(rt: HostRuntime) -> Result<(), Fail> {
     Ok(())
 }
 
+/// What 300,000 spellings of seed 1 give.
+const LONG: &str =
+    "true\n351077\n702154\nstrands 2 351077x1/32 351077x1/32\ntrue\n25\n702148\nless\n";
+
 #[test]
 fn what_is_generated_is_evaluated(rt: HostRuntime) -> Result<(), Fail> {
     for (line, wanted) in [
@@ -146,10 +150,10 @@ fn what_is_generated_is_evaluated(rt: HostRuntime) -> Result<(), Fail> {
             "gen 1 3",
             "true\n3\n6\nstrands 2 3x1/32 3x1/32\ntrue\nnone\nnone\nless\n",
         ),
-        (
-            "gen 1 300000",
-            "true\n351077\n702154\nstrands 2 351077x1/32 351077x1/32\ntrue\n25\n702148\nless\n",
-        ),
+        ("gen 1 300000", LONG),
+        ("gen 1 300000 --workers 1", LONG),
+        ("gen 1 300000 --workers 8", LONG),
+        ("gen 1 300000 --workers 64", LONG),
     ] {
         let found = Found {
             line,

@@ -10,6 +10,7 @@ ghost use Rattle.nfg_run.specs.declared.answer.Answer.{Answer};
 mod answer;
 #[cfg(test)]
 mod command_line_tests;
+mod evaluated;
 #[cfg(test)]
 mod example_tests;
 mod generated_input;
@@ -23,6 +24,8 @@ mod status;
 #[cfg(test)]
 mod tests;
 mod words;
+#[cfg(test)]
+mod worker_tests;
 mod writing;
 
 use crate::answer::answer_words;
@@ -41,14 +44,15 @@ use std::thread::Threads;
 /// Does what the words of the command line ask: reads the script and its files, or generates them, and
 /// writes the answer.
 ///
-/// `rt` and `gate` aren't used.
+/// The commands of a script are done by workers over a table that they share. `gate` is told when a worker begins
+/// a command and when it is done with it.
 pub fn run<R: Threads + Sync, F: Files, S: Sink, G: Gate>(
-    _rt: &R,
+    rt: &R,
     alloc: Global,
     words: &Words,
     files: &mut F,
     out: &mut S,
-    _gate: &G,
+    gate: &G,
 ) -> Status
     // The status and the bytes written are those of the answer to what was read.
     ensures exact_output { result ≢ Status.OutOfMemory → result ≢ Status.WriteFault
@@ -77,7 +81,7 @@ pub fn run<R: Threads + Sync, F: Files, S: Sink, G: Gate>(
     ensures files_untouched { IsNone (script_path words.now) → files.new ≡ files.old }
 {
     failed_read_is_cause();
-    let Ok(answer) = answer_words(alloc, words, files) else {
+    let Ok(answer) = answer_words(rt, alloc, words, files, gate) else {
         return Status::OutOfMemory;
     };
     match write_all(out, answer.bytes.as_slice()) {

@@ -3,15 +3,19 @@ ghost use Rattle.std.specs.Prelude.{◌≡◌, IfOk, IsErrOf, None, Some, codes,
 ghost use Rattle.clap.specs.Words.{app_of, found_of};
 ghost use Rattle.nfg_syn.specs.Known.{IsRowSize};
 ghost use Rattle.nfg_run.specs.ClapCommand.{given_command};
-ghost use Rattle.nfg_run.specs.CommandLine.{Workers, Table, places_of, said_by};
+ghost use Rattle.nfg_run.specs.CommandLine.{Workers, Table, IsWorkerCount, workers_of, places_of, said_by};
 ghost use Rattle.nfg_run.specs.WordTexts.{given_number, said_in, texts_in, values_in};
 ghost use Rattle.nfg_run.specs.declared.said.Unread.TheVariants.{OutOfMemory as NoMemory};
 
 use crate::Words;
+use crate::evaluated::Means;
 use crate::number::{table_size, worker_count};
 use clap::error::ErrorKind;
 use clap::{Arg, ArgAction, ArgMatches, Command};
 use std::alloc::{AllocError, Global};
+
+/// The workers, where the words give no number.
+const DEFAULT_WORKERS: u32 = 4;
 
 /// The places of the table, where the words give none.
 const DEFAULT_PLACES: u32 = 1 << 18;
@@ -40,11 +44,15 @@ pub(crate) struct Said {
 }
 
 impl Said {
-    /// The places of the table.
-    pub fn places(&self) -> u32
-        ensures { result ≡ places_of self.now }
+    /// By how many workers, over a table of how many places a script is evaluated.
+    pub fn means(&self) -> Means
+        ensures workers { result.workers ≡ workers_of self.now }
+        ensures places { result.places ≡ places_of self.now }
     {
-        self.places.unwrap_or(DEFAULT_PLACES)
+        Means {
+            workers: self.workers.unwrap_or(DEFAULT_WORKERS),
+            places: self.places.unwrap_or(DEFAULT_PLACES),
+        }
     }
 }
 
@@ -52,6 +60,7 @@ impl Said {
 pub(crate) fn read_words(alloc: Global, words: &Words) -> Result<Said, Unread>
     ensures ok { IfOk result (λ said. said_by (drop 1 words.now) ≡ Some said) }
     ensures unlawful { IsErrOf result Unread.Unlawful → said_by (drop 1 words.now) ≡ None }
+    ensures workers { IfOk result (λ said. IsWorkerCount (workers_of said)) }
     ensures size { IfOk result (λ said. IsRowSize (places_of said)) }
 {
     let matches = parse_words(alloc, words.as_slice())?;
@@ -94,6 +103,7 @@ fn command<'a>(alloc: Global) -> Result<Command<'a>, AllocError>
 fn read_matches(alloc: Global, matches: &ArgMatches<'_>) -> Result<Said, Unread>
     ensures ok { IfOk result (λ said. said_in (texts_in (found_of matches.now)) ≡ Some said) }
     ensures unlawful { IsErrOf result Unread.Unlawful → said_in (texts_in (found_of matches.now)) ≡ None }
+    ensures workers { IfOk result (λ said. IsWorkerCount (workers_of said)) }
     ensures size { IfOk result (λ said. IsRowSize (places_of said)) }
 {
     let Some(workers) = given_workers(matches.get_str("workers")) else {

@@ -1,7 +1,7 @@
 //! Rows over files in memory, and that a run succeeds where there is memory and nothing fails.
 ghost use Rattle.std.specs.Prelude.{◌≤◌};
 
-use crate::{OpenGate, Status, Words, run};
+use crate::{Gate, OpenGate, Status, Words, run};
 use nfg_io::{MemoryFiles, MemorySink};
 use std::alloc::{AllocError, Global};
 use std::marker::{Send, Sync};
@@ -64,6 +64,19 @@ pub(crate) fn outcome<R: Threads + Sync>(
 ) -> Result<(Status, Vec<u8>), AllocError>
     requires { 1 ≤ outside.step }
 {
+    outcome_at(rt, alloc, found, outside, &OpenGate)
+}
+
+/// What the run gives at a gate.
+pub(crate) fn outcome_at<R: Threads + Sync, G: Gate>(
+    rt: &R,
+    alloc: Global,
+    found: Found,
+    outside: Outside,
+    gate: &G,
+) -> Result<(Status, Vec<u8>), AllocError>
+    requires { 1 ≤ outside.step }
+{
     let words = words_of(alloc, found.line)?;
     let mut files = MemoryFiles::new(alloc, outside.step);
     files.add("s", found.script)?;
@@ -72,7 +85,7 @@ pub(crate) fn outcome<R: Threads + Sync>(
     files.fail_at(outside.failing_call)?;
     let mut out = MemorySink::new(alloc, outside.step, 1 << 18)?;
     out.fail_at(outside.failing_write)?;
-    let status = run(rt, alloc, &words, &mut files, &mut out, &OpenGate);
+    let status = run(rt, alloc, &words, &mut files, &mut out, gate);
     Ok((status, Vec::from_slice(alloc, out.taken())?))
 }
 

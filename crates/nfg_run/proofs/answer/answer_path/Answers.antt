@@ -13,13 +13,13 @@ pub returns-in-Err : goal.returns-in-Err
 returns-in-Err g c =
     let bytes : c.as_slice.result.now ≡ c.in-Ok.bytes = c.as_slice.ensures in
     IfOk-both (λ given. given ≡ answer_script 0 (Err c.in-Err.error) []) (λ given. c.in-Err.error ≢ OutOfMemory) _ c.refusal_answer.result
-    (λ given is refused words workers said. IsAnswered-refused words workers c.args.places c.args.path.now c.in-Ok.bytes _ _ given c.in-Err.error said c.in-Ok.ensures.bytes
+    (λ given is refused words said. IsAnswered-refused words c.args.means.workers c.args.means.places c.args.path.now c.in-Ok.bytes _ _ given c.in-Err.error said c.in-Ok.ensures.bytes
     (ap parse (sym bytes) ∙ c.in-Err.ensures.refused refused)
     (record { open_path = c.in-Ok.ensures.open_path; position = λ whole. c.in-Ok.ensures.position }) is)
     c.refusal_answer.ensures.told c.refusal_answer.ensures.refused
 
-pub run_alone-requires-clause-reads : goal.run_alone-requires-clause-reads
-run_alone-requires-clause-reads g c = rw (c.as_slice-in-Ok-parse.ensures.value)
+pub evaluated-requires-clause-reads : goal.evaluated-requires-clause-reads
+evaluated-requires-clause-reads g c κs within = rw (c.as_slice-in-Ok-parse.ensures.value)
     (AreWithinLimit-of _ 0 (load_paths c.in-Ok-parse.script) _ c.in_ok-reads-in-Ok-parse.ensures.read)
 
 pub returns : goal.returns
@@ -33,9 +33,9 @@ returns g c =
     c.in_ok-reads-in-Ok-parse.ensures.failed in
     let last_open = c.in_ok-reads-in-Ok-parse.ensures.last_open c.args.path.now byte_limit
     (record { open_path = c.in-Ok.ensures.open_path; position = λ whole. c.in-Ok.ensures.position }) in
-    let output : c.in_ok-output-in-Ok-parse.output ≡ evaluate c.in-Ok-parse.script reads c.args.places =
-    c.in_ok-output-in-Ok-parse.ensures ∙ ap (λ v. evaluate c.in-Ok-parse.script v c.args.places) c.as_slice-in-Ok-parse.ensures.value in
+    let output : c.in_ok-output-in-Ok-parse.output ≡ evaluate c.in-Ok-parse.script reads c.args.means.places =
+    c.in_ok-output-in-Ok-parse.ensures ∙ ap (λ v. evaluate c.in-Ok-parse.script v c.args.means.places) c.as_slice-in-Ok-parse.ensures.value in
     IfOk-map (λ given. given ≡ answer_output c.in_ok-output-in-Ok-parse.output.bytes c.in_ok-output-in-Ok-parse.output.refused) _ c.answer_to_output.result
-    (λ given is words workers said. IsAnswered-accepted words workers c.args.places c.args.path.now c.in-Ok.bytes _ _ given c.in-Ok-parse.script reads
+    (λ given is words said. IsAnswered-accepted words c.args.means.workers c.args.means.places c.args.path.now c.in-Ok.bytes _ _ given c.in-Ok-parse.script reads
     said c.in-Ok.ensures.bytes accepted loads cause last_open (is ∙ ap (λ o. answer_output o.bytes o.refused) output))
     c.answer_to_output.ensures

@@ -1,5 +1,5 @@
-use Rattle.std.proofs.Common.{◌≡◌, ◌≢◌, Some, None, length, refl, sym, subst, ap₂, ◌∙◌}
-use Rattle.nfg_run.specs.CommandLine.{Run, workers_of}
+use Rattle.std.proofs.Common.{◌≡◌, ◌≢◌, Some, None, [], length, slice_index_or, refl, subst, ◌∙◌}
+use Rattle.nfg_run.specs.CommandLine.{Run, workers_of, places_of}
 use Rattle.nfg_run.proofs.Answered.{IsAnswered-unread, IfOk-map}
 use Rattle.nfg_run.proofs.Lines.{run_of-none, run_of-one}
 use Rattle.nfg_run.proofs.answer.answer_run.Goals as goal
@@ -15,7 +15,8 @@ pub returns-clause-answered : goal.returns-clause-answered
 returns-clause-answered g c =
     let read = c.args.said.now in
     let one : length read.plain ≡ 1 = cc in
-    IfOk-map _ _ c.answer_path.result
-    (λ given is words said. is words (workers_of read)
-    (said ∙ run_of-one read read.plain one ∙ sym (ap₂ (λ path places. Some (Run (workers_of read) places path)) c.get.ensures c.places.ensures)))
-    c.answer_path.ensures
+    let path = c.get.ensures in
+    let workers = c.means.ensures.workers in
+    let places = c.means.ensures.places in
+    let asked : Some (Run (workers_of read) (places_of read) (slice_index_or read.plain 0 [])) ≡ Some (Run c.means.result.workers c.means.result.places c.get.result.now) = cc in
+    IfOk-map _ _ c.answer_path.result (λ given is words said. is words (said ∙ run_of-one read read.plain one ∙ asked)) c.answer_path.ensures
