@@ -1,6 +1,7 @@
 pub mod Examples
 pub mod Keeping
 pub mod KeptLemmas
+mod LineEnds
 pub mod Machine
 pub mod Marked
 pub mod Passing

@@ -44,7 +44,7 @@ graphemes-parted a b y safe_a safe_b parted =
 before_line : (a : ℕ) (y : List ℕ) → is_plain a ≡ true → graphemes_of (a ∷ 0xA ∷ y) ≡ (a ∷ []) ∷ graphemes_of (0xA ∷ y)
 before_line a y plain = graphemes-parted a 0xA y (plain_stands_apart a plain).safe line_feed_safe (plain_breaks_before_line_feed a [] [] plain)
 
-graphemes-pair : (a b : ℕ) (y : List ℕ) → is_of_plain_lines a ≡ true → is_of_plain_lines b ≡ true → graphemes_of (a ∷ b ∷ y) ≡ (a ∷ []) ∷ graphemes_of (b ∷ y)
+pub graphemes-pair : (a b : ℕ) (y : List ℕ) → is_of_plain_lines a ≡ true → is_of_plain_lines b ≡ true → graphemes_of (a ∷ b ∷ y) ≡ (a ∷ []) ∷ graphemes_of (b ∷ y)
 graphemes-pair a b y of_a of_b =
     elim (of_lines a of_a) [
       | inr line ↦ subst (λ c. graphemes_of (c ∷ b ∷ y) ≡ (c ∷ []) ∷ graphemes_of (b ∷ y)) (sym line) (graphemes-line (b ∷ y))

@@ -3,14 +3,12 @@ ghost use Rattle.std.specs.Prelude.{◌≡◌, ◌<◌, ◌≤◌, ℕ, true, fa
 ghost use Rattle.std.specs.List.{slice_index_or};
 ghost use Rattle.nfg_text.specs.Forms.{nfc};
 ghost use Rattle.nfg_text.specs.Graphemes.{graphemes_of, starts_safely};
-ghost use Rattle.nfg_text.specs.Plain.{singles};
 ghost use Rattle.nfg_text.specs.Text.{IsText};
 ghost use Rattle.nfg_passes.specs.Ids.{id_number};
 ghost use Rattle.nfg_passes.specs.Unsettled.{IsSettledText};
-ghost use Rattle.nfg_segment.specs.Follows.{Tracks, Follows, IsApart};
+ghost use Rattle.nfg_segment.specs.Follows.{Tracks, Follows};
 ghost use Rattle.nfg_segment.specs.Given.{Grew, with_clusters};
 ghost use Rattle.nfg_segment.specs.Held.{Keeps, next_all, closed_all, as_list, none_safe};
-ghost use Rattle.nfg_segment.specs.PlainLines.{ArePlainLines};
 
 use crate::ClusterSink;
 use crate::draft::{Draft, to_char};
@@ -18,10 +16,13 @@ use crate::marked_run::push_settled;
 use crate::open_cluster::OpenCluster;
 use crate::open_reach::are_parted;
 use crate::plain::plain_lines_len;
-use crate::settled_run::{WINDOW, settled_len, unsafe_len};
-use nfg_text::{Kind, append_nfc, compose_pair, is_plain, starts_safely};
+use crate::settled_run::{WINDOW, goes_on_settled, settled_len, unsafe_len};
+use lines::begins_with_line_end;
+use nfg_text::{Kind, append_nfc, compose_pair, starts_safely};
 use std::alloc::{AllocError, Global};
 use std::marker::Model;
+
+mod lines;
 
 /// The cluster at the end of what is composed, and the text behind it that is not composed yet.
 #[derive(Drop)]
@@ -242,8 +243,26 @@ impl Held {
         }
     }
 
-    /// Goes on with code points of which the first starts safely, one or a settled run. Says with how many.
-    fn take_next_safe<S: ClusterSink>(
+    /// Goes on with the first code point, which starts safely. Says with how many: one.
+    fn take_safe<S: ClusterSink>(&mut self, text: &[u32], out: &mut S) -> Result<usize, AllocError>
+        requires text { IsText text.now }
+        requires some { 0 < length text.now }
+        requires first { starts_safely (slice_index_or text.now 0 0) ≡ true }
+        ensures follows { (fed : List ℕ) (given : List (List ℕ)) → Follows self.old.now fed given
+            → IfOk result (λ n. (more : List (List ℕ)) × (Follows self.new.now (fed ++ take n text.now) (given ++ more))
+            × (S.given out.new ≡ with_clusters (S.given out.old) more)) }
+        ensures some { IfOk result (λ n. (0 < n) × (n ≤ length text.now)) }
+        ensures marked { self.new.marked ≡ self.old.marked }
+        ensures grew { Grew (S.given out.old) (S.given out.new) }
+    {
+        if self.replace_single(to_char(text[0]), out)? {
+            return Ok(1);
+        }
+        self.take_run(text, 0, &[], out)
+    }
+
+    /// Goes on with a settled run, or with one code point where there is none. Says with how many.
+    fn take_settled<S: ClusterSink>(
         &mut self,
         text: &[u32],
         out: &mut S,
@@ -263,10 +282,29 @@ impl Held {
         if n > 0 {
             return self.take_run(text, n, &ids[..n], out);
         }
-        if self.replace_single(to_char(text[0]), out)? {
-            return Ok(1);
+        self.take_safe(text, out)
+    }
+
+    /// Goes on with code points of which the first starts safely, one or a settled run. Says with how many.
+    fn take_next_safe<S: ClusterSink>(
+        &mut self,
+        text: &[u32],
+        out: &mut S,
+    ) -> Result<usize, AllocError>
+        requires text { IsText text.now }
+        requires some { 0 < length text.now }
+        requires first { starts_safely (slice_index_or text.now 0 0) ≡ true }
+        ensures follows { (fed : List ℕ) (given : List (List ℕ)) → Follows self.old.now fed given
+            → IfOk result (λ n. (more : List (List ℕ)) × (Follows self.new.now (fed ++ take n text.now) (given ++ more))
+            × (S.given out.new ≡ with_clusters (S.given out.old) more)) }
+        ensures some { IfOk result (λ n. (0 < n) × (n ≤ length text.now)) }
+        ensures marked { self.new.marked ≡ self.old.marked }
+        ensures grew { Grew (S.given out.old) (S.given out.new) }
+    {
+        if goes_on_settled(text) {
+            return self.take_settled(text, out);
         }
-        self.take_run(text, 0, &[], out)
+        self.take_safe(text, out)
     }
 
     /// Goes on with some of a text of any kind, and says with how much.
@@ -291,64 +329,6 @@ impl Held {
         Ok(n)
     }
 
-    /// Whether nothing is held, or one plain code point.
-    #[inline]
-    fn is_apart(&self) -> bool
-        ensures few { IsTrue result → length self.now.now.tail ≤ 1 }
-        ensures apart { IsTrue result → (fed : List ℕ) (given : List (List ℕ)) → Follows self.now.now fed given
-            → IsApart self.now.now fed given }
-    {
-        if self.cluster.is_some() {
-            return false;
-        }
-        let tail = self.tail.as_slice();
-        if tail.len() != 1 {
-            return tail.is_empty();
-        }
-        is_plain(tail[0] as u32)
-    }
-
-    /// Gives out the tail of one code point at most as a cluster.
-    #[inline]
-    fn give_tail<S: ClusterSink>(&mut self, out: &mut S) -> Result<(), AllocError>
-        requires { length self.old.now.tail ≤ 1 }
-        ensures given { OnOk result (S.given out.new ≡ with_clusters (S.given out.old) (singles self.old.now.tail)) }
-        ensures cluster { OnOk result (self.new.now.cluster ≡ self.old.now.cluster) }
-        ensures tail { OnOk result (self.new.now.tail ≡ []) }
-        ensures marked { self.new.marked ≡ self.old.marked }
-        ensures grew { Grew (S.given out.old) (S.given out.new) }
-    {
-        let tail = self.tail.as_slice();
-        if tail.len() == 1 {
-            out.push_run(&[tail[0] as u32])?;
-            self.tail.clear();
-        }
-        Ok(())
-    }
-
-    /// Goes on with plain lines where a plain code point is all that is held, if anything is.
-    fn take_lines<S: ClusterSink>(&mut self, lines: &[u32], out: &mut S) -> Result<(), AllocError>
-        requires few { length self.old.now.tail ≤ 1 }
-        requires text { IsText lines.now }
-        requires plain { ArePlainLines lines.now }
-        requires some { 0 < length lines.now }
-        ensures follows { (fed : List ℕ) (given : List (List ℕ)) → IsApart self.old.now fed given
-            → OnOk result ((more : List (List ℕ)) × (Follows self.new.now (fed ++ lines.now) (given ++ more))
-            × (S.given out.new ≡ with_clusters (S.given out.old) more)) }
-        ensures marked { self.new.marked ≡ self.old.marked }
-        ensures grew { Grew (S.given out.old) (S.given out.new) }
-    {
-        self.give_tail(out)?;
-        let last = lines.len() - 1;
-        if lines[last] == 0xA {
-            out.push_run(lines)?;
-            return Ok(());
-        }
-        out.push_run(&lines[..last])?;
-        self.tail.push(to_char(lines[last]))?;
-        Ok(())
-    }
-
     /// Goes on with some of the text, and says with how much.
     fn take_some<S: ClusterSink>(&mut self, text: &[u32], out: &mut S) -> Result<usize, AllocError>
         requires text { IsText text.now }
@@ -362,6 +342,10 @@ impl Held {
     {
         if self.is_apart() {
             let n = plain_lines_len(text);
+            if begins_with_line_end(&text[n..]) {
+                self.take_ended_lines(&text[..n], &text[n..n + 2], out)?;
+                return Ok(n + 2);
+            }
             if n > 0 {
                 self.take_lines(&text[..n], out)?;
                 return Ok(n);

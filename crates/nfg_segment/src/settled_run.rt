@@ -38,16 +38,13 @@ pub(crate) fn settled_len(text: &[u32], ids: &mut [u8]) -> usize
     ensures size { length ids.new ≡ 256 }
     ensures few { result ≤ 256 }
 {
-    if !goes_on_settled(text) {
-        return 0;
-    }
     let front = settled_front(text, ids);
     last_safe(&ids[..front])
 }
 
 /// Whether the text has a second code point whose quick check is Yes.
 #[inline(always)]
-fn goes_on_settled(text: &[u32]) -> bool {
+pub(crate) fn goes_on_settled(text: &[u32]) -> bool {
     text.len() > 1 && id_of(text[1]) < FIRST_DOUBTFUL
 }
 

@@ -1,7 +1,7 @@
 use Rattle.std.proofs.Common.{◌++◌, subst}
 use Rattle.nfg_segment.specs.Follows.{Follows}
 use Rattle.nfg_segment.proofs.SafeRuns.{take-one}
-use Rattle.nfg_segment.proofs.held.Held.take_next_safe.Goals as goal
+use Rattle.nfg_segment.proofs.held.Held.take_safe.Goals as goal
 
 pub returns-then-branch-clause-follows : goal.returns-then-branch-clause-follows
 returns-then-branch-clause-follows g c fed given f =
