@@ -18,7 +18,7 @@ use Rattle.nfg_words.proofs.KeepsViews.{read_keeps, codes_read_keeps, number_rea
 use Rattle.nfg_words.proofs.Opening.{opening_rule}
 use Rattle.nfg_words.specs.Kinds.{Changes, OneMoves}
 use Rattle.nfg_words.specs.Rule.{Rule, AreRecordsTrue, IsJustified}
-use Rattle.nfg_words.specs.Layout.{chunk_count, chunk_word, code_word, word_count, stop_of}
+use Rattle.nfg_words.specs.Layout.{chunk_count, chunk_word, code_word, word_count}
 use Rattle.nfg_words.specs.Steps.{CanPublish, IsNamed, bucket_read, bucket_published, chunk_taken, chunk_found, codes_written, codes_read, number_read, split, split_off, joined}
 use Rattle.nfg_words.specs.View.{Grows, SaysAll, IsAmong, emptied, entry, fresh_view}
 use Rattle.nfg_words.specs.Words.{IsKept, IsSeatOf, IsSound, Stays, TellsBucket, TellsChunk, TellsCodes, TellsNumber, TellsPublishing, TellsSight, TellsWriting}

@@ -3,7 +3,6 @@ use Rattle.std.proofs.Common.{◌≡◌, ◌≢◌, ℕ, zero, suc, ◌+◌, ◌
 use Rattle.std.proofs.lemmas.Bool.{and_parts, and_cases}
 use Rattle.std.proofs.lemmas.Nat.{div-add-mod', mod_low, shr_high}
 use mathlib.Core.Logic.{dite}
-use mathlib.Core.Option as maybe
 use native.Mathlib.Decide.{ℕ_discrete}
 use Rattle.nfg_syn.specs.KnownLaws.{same_text}
 use Rattle.nfg_words.proofs.Entries.{says-first, places_more}

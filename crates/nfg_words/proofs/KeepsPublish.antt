@@ -11,9 +11,9 @@ use Rattle.nfg_words.specs.Reading.{IsKnownBy, text_named-more, text_named-withi
 use Rattle.nfg_words.specs.Kinds.{Changes, OneMoves}
 use Rattle.nfg_words.specs.Layout.{chunk_word, code_word, start_of, length_of, stop_of, second_code, text_named}
 use Rattle.nfg_words.specs.ProbeTable.{Insert, IsAllowed, after, probe_sequence}
-use Rattle.nfg_words.specs.Rule.{Views, AreApart, codes_now, bucket_now, texts_now, IsFilled, LiesInChunk, IsPublished, IsJustified, AreWordsValid, AreRecordsTrue, Rule}
+use Rattle.nfg_words.specs.Rule.{Views, AreApart, codes_now, texts_now, IsFilled, LiesInChunk, IsPublished, IsJustified, AreWordsValid, AreRecordsTrue, Rule}
 use Rattle.nfg_words.specs.Steps.{CanPublish, bucket_published, below}
-use Rattle.nfg_words.specs.View.{entry, Says, IsIn, IsAmong, places_of}
+use Rattle.nfg_words.specs.View.{entry, IsIn, IsAmong, places_of}
 use Rattle.nfg_words.specs.declared.view.View.{View}
 use Rattle.nfg_words.specs.SoundLaws.{bucket_below, bucket_beyond, no_text, places_true, says_in}
 

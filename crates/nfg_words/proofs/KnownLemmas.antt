@@ -1,10 +1,10 @@
 -- What calls make of the knowledge of a pass.
-use Rattle.std.proofs.Common.{◌≡◌, ◌≢◌, ℕ, zero, suc, ◌+◌, ◌*◌, ◌/◌, ◌≤◌, ◌%◌, ◌<◌, ◌==◌, length, slice_get, Bool, true, false, ◌||◌, List, [], ◌∷◌, ◌++◌, Some, None, IsSome, Option, if◌then◌else◌, negsuc, inl, inr, ⊎_elim, refl, sym, ap, ◌∙◌, subst, arith}
+use Rattle.std.proofs.Common.{◌≡◌, ◌≢◌, ℕ, zero, suc, ◌+◌, ◌/◌, ◌%◌, ◌<◌, length, slice_get, Bool, true, false, ◌||◌, List, [], ◌∷◌, Some, None, IsSome, Option, if◌then◌else◌, negsuc, inl, inr, ⊎_elim, refl, sym, ap, ◌∙◌, subst, arith}
 use Rattle.std.proofs.lemmas.Bool.Decides.{eqb_tells}
 use mathlib.Core.Logic.{dite}
 use native.Mathlib.Decide.{ℕ_discrete}
 use Rattle.atomic_table.specs.Seated.{TableId}
-use Rattle.nfg_syn.specs.Known.{Texts, IsOneToOne, IsSame, IsWithin, MapsBesides, crlf}
+use Rattle.nfg_syn.specs.Known.{Texts, IsSame, IsWithin, MapsBesides, crlf}
 use Rattle.nfg_syn.specs.KnownLaws.{same_text}
 use Rattle.nfg_syn.specs.Refusal.{IsTableFull}
 use Rattle.nfg_syn.specs.Seen.{Keeps}
@@ -13,8 +13,7 @@ use Rattle.nfg_words.proofs.Entries.{places_more, says-cons}
 use Rattle.nfg_words.proofs.ProbeTableLemmas.{goes_everywhere}
 use Rattle.nfg_words.specs.Comparing.{ArePassed, IsFound}
 use Rattle.nfg_words.specs.Layout.{chunk_count, start_of, length_of, first_code, second_code, last_of, both_before, read_codes, text_named}
-use Rattle.nfg_words.specs.Passes.{AreReadInFull, Finds, IsPassOf, LooksOn, view_of}
-use Rattle.nfg_words.specs.ProbeTable.{probe_sequence}
+use Rattle.nfg_words.specs.Passes.{AreReadInFull, IsPassOf, view_of}
 use Rattle.nfg_words.specs.Rule.{IsJustified}
 use Rattle.nfg_words.specs.SoundLaws.{its_rule, no_text, same_word}
 use Rattle.nfg_words.specs.Steps.{IsNamed, bucket_read}

@@ -1,9 +1,9 @@
 -- What looks at places leave of a view, one after another.
-use Rattle.std.proofs.Common.{◌≡◌, ◌≢◌, ℕ, zero, suc, ◌+◌, ◌<◌, List, ◌∷◌, Option, Some, None, inl, inr, ⊎_elim, refl, sym, ap, ◌∙◌, subst, arith}
+use Rattle.std.proofs.Common.{◌≡◌, ◌≢◌, ℕ, zero, suc, ◌+◌, ◌<◌, List, ◌∷◌, Option, Some, None, ⊎_elim, refl, sym, ap, ◌∙◌, subst, arith}
 use Rattle.std.specs.Prelude.{Result, Ok, Bool, true, false}
 use mathlib.Core.Logic.{dite}
 use native.Mathlib.Decide.{ℕ_discrete, dec_lt}
-use Rattle.nfg_syn.specs.Known.{Texts, IsWithin}
+use Rattle.nfg_syn.specs.Known.{Texts}
 use Rattle.nfg_syn.specs.KnownLaws.{same_text}
 use Rattle.nfg_words.proofs.Entries.{says-cons, says-first, places_more}
 use Rattle.nfg_words.specs.Comparing.{ReadsOn, ArePassed, HoldsOther, IsFound, numbered}
@@ -14,7 +14,6 @@ use Rattle.nfg_words.specs.Passes.{AreReadBut, AreReadInFull, Finds, IsHeld, IsP
 use Rattle.nfg_words.specs.Words.{IsSeatOf}
 use Rattle.nfg_words.specs.declared.pass.WordPass.{WordPass}
 use Rattle.nfg_words.specs.ProbeTable.{probe_sequence}
-use Rattle.nfg_words.specs.Rule.{IsJustified}
 use Rattle.nfg_words.specs.Steps.{bucket_read}
 use Rattle.nfg_words.specs.View.{entry, Says, IsAmong, Grows, places_of}
 use Rattle.nfg_words.specs.declared.view.View.{View}

@@ -1,5 +1,5 @@
 -- What a pass knows that was joined of two.
-use Rattle.std.proofs.Common.{◌≡◌, ℕ, zero, suc, ◌+◌, ◌<◌, ◌≤◌, ◌==◌, ◌⊎◌, Bool, true, false, ◌||◌, List, [], ◌∷◌, ◌++◌, Some, None, Option, if◌then◌else◌, inl, inr, ⊎_elim, refl, sym, ap, ◌∙◌, subst}
+use Rattle.std.proofs.Common.{◌≡◌, ℕ, zero, suc, ◌<◌, ◌≤◌, ◌==◌, ◌⊎◌, Bool, true, false, ◌||◌, List, [], ◌∷◌, ◌++◌, Some, None, Option, if◌then◌else◌, inl, inr, ⊎_elim, refl, sym, ap, ◌∙◌, subst}
 use Rattle.atomic_table.specs.Seated.{TableId}
 use Rattle.atomic_table.specs.declared.shared.Seat.{Seat}
 use Rattle.nfg_syn.specs.Known.{IsUnion, or_else}
@@ -9,11 +9,11 @@ use Rattle.nfg_words.proofs.Entries.{append_keeps_left, append_keeps_right, entr
 use Rattle.nfg_words.proofs.KnownLemmas.{full_kept, justified_text, kept, spent_kept}
 use Rattle.nfg_words.specs.Layout.{chunk_count, text_named}
 use Rattle.nfg_words.specs.Passes.{AreReadInFull, IsPassOf, view_of}
-use Rattle.nfg_words.specs.SoundLaws.{its_records, its_word, says_in}
+use Rattle.nfg_words.specs.SoundLaws.{its_records, says_in}
 use Rattle.nfg_words.specs.Steps.{joined}
 use Rattle.nfg_words.specs.Table.{is_among, known_of, seen_of}
 use Rattle.nfg_words.specs.TableLaws.{known_read}
-use Rattle.nfg_words.specs.View.{entry, Says, SaysAll, IsIn, IsAmong, Grows, places_of}
+use Rattle.nfg_words.specs.View.{entry, Says, IsIn, IsAmong, Grows, places_of}
 use Rattle.nfg_words.specs.Words.{IsSeatOf, IsSound}
 use Rattle.nfg_words.specs.declared.pass.WordPass.{WordPass}
 use Rattle.nfg_words.specs.declared.view.View.{View}

@@ -1,14 +1,13 @@
 -- Steps that leave the texts as they are keep what holds of the words.
 use Rattle.std.proofs.Common.{◌≡◌, ◌≢◌, ℕ, ◌-◌, ◌%◌, ◌<◌, ◌≤◌, List, Some, None, ◌⊎◌, ⊎_elim, sym, ap, ◌∙◌, subst, arith}
 use Rattle.std.proofs.Math.Decide.{dec_lt}
-use Rattle.std.proofs.lemmas.Bool.Decides.{nat_tests}
 use mathlib.Core.Logic.{dite}
 use mathlib.Core.Option as maybe
 use Rattle.nfg_syn.specs.Known.{Texts, IsOneToOne}
 use Rattle.nfg_words.specs.Reading.{text_named-same}
 use Rattle.nfg_words.specs.Layout.{chunk_count, chunk_word, code_word, start_of, length_of, stop_of, second_code, text_named}
 use Rattle.nfg_words.specs.ProbeTable.{probe_sequence}
-use Rattle.nfg_words.specs.Rule.{Views, AreApart, codes_now, bucket_now, texts_now, IsFilled, LiesInChunk, IsPublished, AreWordsValid, AreRangesApart, IsProbedBefore, AreRecordsTrue, AreWritesTrue, AreNumbersJustified, Rule}
+use Rattle.nfg_words.specs.Rule.{Views, AreApart, codes_now, texts_now, IsFilled, LiesInChunk, IsPublished, AreWordsValid, AreRangesApart, IsProbedBefore, AreRecordsTrue, AreWritesTrue, AreNumbersJustified, Rule}
 use Rattle.nfg_words.specs.Kinds.{OneMoves}
 use Rattle.nfg_words.specs.View.{IsIn, emptied}
 use Rattle.nfg_words.specs.declared.view.View.{View}

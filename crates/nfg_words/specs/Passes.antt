@@ -41,6 +41,10 @@ pub record IsReady (pass : WordPass) (text : List ℕ) : Type 0 where
   pub written : HasWritten (view_of pass) pass.unspent ((length text + 1) / 2) text
   pub room : pass.unspent + (length text + 1) / 2 ≤ pass.end
 
+-- the unspent code words of the pass are as many as the text needs
+abbrev pub HasUnspentRoom : View → List ℕ → Type 0
+HasUnspentRoom view text = view.unspent + (length text + 1) / 2 ≤ view.end
+
 -- what no step of a call changes but a split or a join: where the pass came from, and its counts of both
 pub record SameOrigin (old new : View) : Type 0 where
   pub root : new.root ≡ old.root

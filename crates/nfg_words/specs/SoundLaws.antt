@@ -1,9 +1,8 @@
 -- Laws of views: what a pass of a sound view has read stands in a table, so it knows knowledge.
-use Rattle.std.proofs.Common.{◌≡◌, ◌≢◌, ℕ, zero, suc, ◌*◌, ◌<◌, ◌≤◌, ◌==◌, Bool, true, false, List, [], ◌∷◌, Some, None, ◌⊎◌, inl, inr, ⊎_elim, if◌then◌else◌, get_or, refl, sym, ap, ◌∙◌, subst, arith}
+use Rattle.std.proofs.Common.{◌≡◌, ℕ, ◌*◌, ◌<◌, ◌≤◌, List, [], ◌∷◌, Some, None, inl, inr, ⊎_elim, if◌then◌else◌, get_or, sym, ap, ◌∙◌, subst, arith}
 use Rattle.std.proofs.lemmas.Bool.Decides.{eqb_tells, nat_tests}
-use mathlib.Core.Option as maybe
 use lib.ListN.{get_elem?}
-use Rattle.nfg_words.specs.Layout.{chunk_count, code_word, stop_of, text_named}
+use Rattle.nfg_words.specs.Layout.{chunk_count, stop_of}
 use Rattle.nfg_words.specs.Reading.{text_named-more}
 use Rattle.nfg_words.specs.Rule.{Rule, AreRecordsTrue, codes_now, bucket_now, texts_now}
 use Rattle.nfg_words.specs.Steps.{IsNamed}

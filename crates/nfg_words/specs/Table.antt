@@ -1,5 +1,5 @@
 -- What contracts see of the pass of a `WordTable` (this project's own).
-use Rattle.std.specs.Prelude.{◌≡◌, ℕ, zero, suc, ◌==◌, Bool, true, false, ◌||◌, List, [], ◌∷◌, Some, None, if◌then◌else◌, ℤ, pos, negsuc}
+use Rattle.std.specs.Prelude.{◌≡◌, ℕ, zero, suc, ◌==◌, Bool, false, ◌||◌, List, [], ◌∷◌, Some, None, if◌then◌else◌, ℤ, pos, negsuc}
 use Rattle.nfg_syn.specs.Known.{Texts, IsOneToOne, IsRowSize, crlf}
 use Rattle.nfg_syn.specs.Refusal.{IsTableFull}
 use Rattle.nfg_syn.specs.Seen.{Seen}

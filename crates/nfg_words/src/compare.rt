@@ -86,6 +86,32 @@ fn read_front<L: Ledger>(
     same
 }
 
+// Reads the code words of the text at a place, and compares them with none.
+fn read_words<L: Ledger>(
+    words: &Words,
+    holder: &mut Holder,
+    n: usize,
+    place: usize,
+    bucket: u64,
+    steps: &mut Steps<L>,
+)
+    requires table { IsSeatOf words.now.shared.table_id n holder.old }
+    requires key { words.now.shared.key ≡ n }
+    requires limit { n ≤ 1048576 }
+    requires bucket { Says holder.old.me.0.buckets place bucket }
+    ensures table { IsSeatOf words.now.shared.table_id n holder.new }
+    ensures reads { ReadsOn holder.old.me.0 holder.new.me.0 }
+    ensures recorded { AreRecorded holder.new.me.0 (specs.start_of bucket) ((specs.length_of bucket + 1) / 2) }
+    ensures made { holder.new.me.0.steps ≡ holder.old.me.0.steps + (specs.length_of bucket + 1) / 2 }
+    ensures counted { steps.new ≡ steps.old + (specs.length_of bucket + 1) / 2 }
+{
+    let _ = place;
+    let start = layout::start_of(bucket);
+    for k in 0..(layout::length_of(bucket) + 1) / 2 {
+        read_codes(words, holder, n, start + k, steps);
+    }
+}
+
 /// Reads the text at a place in full, and answers whether it is `codes`: then the pass knows the number of the place. The
 /// places before it on the text's probe sequence hold other texts.
 pub fn read_text<L: Ledger>(
@@ -113,8 +139,14 @@ pub fn read_text<L: Ledger>(
     ensures made { holder.new.me.0.steps ≤ holder.old.me.0.steps + 512 }
     ensures counted { steps.new + holder.old.me.0.steps ≡ steps.old + holder.new.me.0.steps }
 {
+    // A text of another length is known to be another one before its code words are there.
+    let length = layout::length_of(bucket);
+    if length != codes.len() {
+        read_words(words, holder, n, place, bucket, steps);
+        return false;
+    }
     let same = read_front(words, holder, n, place, bucket, codes, steps);
-    let index_of_last = (layout::length_of(bucket) + 1) / 2 - 1;
+    let index_of_last = (length + 1) / 2 - 1;
     let last = layout::start_of(bucket) + index_of_last;
     if same {
         let wanted = pair_of(codes, index_of_last);

@@ -16,7 +16,11 @@ mod table;
 #[cfg(test)]
 mod tests;
 #[cfg(test)]
+mod tests_of_forks;
+#[cfg(test)]
 mod tests_of_tables;
+#[cfg(test)]
+mod tests_of_threads;
 pub mod view;
 pub mod visit;
 pub mod walk;

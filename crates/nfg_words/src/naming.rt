@@ -3,7 +3,7 @@ ghost use Rattle.std.specs.Prelude.{◌≡◌, ◌+◌, ◌*◌, ◌<◌, ◌≤
 ghost use Rattle.nfg_syn.specs.Known.{IsSame, MapsBesides};
 ghost use Rattle.nfg_syn.specs.Seen.{Keeps, SameCounts};
 ghost use Rattle.nfg_words.specs.Layout.{chunk_count};
-ghost use Rattle.nfg_words.specs.Passes.{IsPassOf, PutsAtMost, view_of};
+ghost use Rattle.nfg_words.specs.Passes.{HasUnspentRoom, IsPassOf, PutsAtMost, view_of};
 ghost use Rattle.nfg_words.specs.ProbeTable.{IsStorable};
 ghost use Rattle.nfg_words.specs.Table.{seen_of};
 
@@ -39,6 +39,9 @@ pub fn find<L: Ledger>(
     ensures inserted { IfOk result (λ k. PutsAtMost k (view_of pass.old) (view_of pass.new)) }
     ensures not_inserted { OnErr result ((view_of pass.new).inserted ≡ (view_of pass.old).inserted) }
     ensures one_chunk { (view_of pass.new).taken ≤ (view_of pass.old).taken + 1 }
+    ensures no_chunk { HasUnspentRoom (view_of pass.old) codes.now → (view_of pass.new).taken ≡ (view_of pass.old).taken }
+    ensures known_no_chunk { (k : ℕ) → (seen_of pass.old).known (suc k) ≡ Some codes.now
+        → (view_of pass.new).taken ≡ (view_of pass.old).taken }
     ensures made { (view_of pass.new).steps ≤ (view_of pass.old).steps + (514 * n + chunk_count n + 512) }
     ensures counted { steps.new + (view_of pass.old).steps ≡ steps.old + (view_of pass.new).steps }
 {

@@ -3,7 +3,7 @@ ghost use Rattle.std.specs.Prelude.{◌≡◌, ◌↔◌, ◌+◌, ◌*◌, ◌<
 ghost use Rattle.nfg_syn.specs.Known.{IsInternable, IsSame, MapsBesides, crlf};
 ghost use Rattle.nfg_syn.specs.Seen.{Keeps, SameCounts};
 ghost use Rattle.nfg_words.specs.Layout.{chunk_count};
-ghost use Rattle.nfg_words.specs.Passes.{view_of};
+ghost use Rattle.nfg_words.specs.Passes.{HasUnspentRoom, view_of};
 ghost use Rattle.nfg_words.specs.Table.{IsWordPass, PutsAtMostIts, seen_of};
 
 use crate::naming::find;
@@ -53,10 +53,13 @@ impl WordTable {
         ensures row_full { result ≡ Err ProbeError.RowFull → (seen_of pass.new).full codes.now }
         ensures no_portion { result ≡ Err ProbeError.NoPortion → (seen_of pass.new).drained }
 
-        // It puts at most this text, takes at most one chunk, and counts its steps.
+        // It puts at most this text, takes at most one chunk and none without need, and counts its steps.
         ensures inserted { IfOk result (λ n. PutsAtMostIts n (view_of pass.old) (view_of pass.new)) }
         ensures not_inserted { OnErr result ((view_of pass.new).inserted ≡ (view_of pass.old).inserted) }
         ensures one_chunk { (view_of pass.new).taken ≤ (view_of pass.old).taken + 1 }
+        ensures no_chunk { HasUnspentRoom (view_of pass.old) codes.now → (view_of pass.new).taken ≡ (view_of pass.old).taken }
+        ensures known_no_chunk { (m : ℕ) → (seen_of pass.old).known m ≡ Some codes.now
+            → (view_of pass.new).taken ≡ (view_of pass.old).taken }
         ensures made { (view_of pass.new).steps ≤ (view_of pass.old).steps + (514 * self.now.n + chunk_count self.now.n + 512) }
         ensures counted { steps.new + (view_of pass.old).steps ≡ steps.old + (view_of pass.new).steps }
     {

@@ -2,7 +2,7 @@
 ghost use Rattle.std.specs.Prelude.{◌≡◌, ◌≢◌, ◌+◌, ◌*◌, ◌/◌, ◌<◌, ◌≤◌, ◌∷◌, ℕ, true, false, length};
 ghost use Rattle.nfg_words.specs.Comparing.{ArePassed};
 ghost use Rattle.nfg_words.specs.Layout as specs;
-ghost use Rattle.nfg_words.specs.Passes.{AreReadInFull, Finds, IsHeld, IsReady, LooksOn, view_of};
+ghost use Rattle.nfg_words.specs.Passes.{AreReadInFull, Finds, HasUnspentRoom, IsHeld, IsReady, LooksOn, view_of};
 ghost use Rattle.nfg_words.specs.ProbeTable.{IsStorable, probe_sequence};
 ghost use Rattle.nfg_words.specs.Steps.{bucket_read};
 ghost use Rattle.nfg_words.specs.View.{Grows, places_of};
@@ -71,6 +71,8 @@ pub fn prepare<L: Ledger>(
     ensures ready { result ≡ true → IsReady pass.new codes.now }
     ensures spent { result ≡ false → AreChunksSpent n (view_of pass.new) }
     ensures one_chunk { (view_of pass.new).taken ≤ (view_of pass.old).taken + 1 }
+    ensures no_chunk { HasUnspentRoom (view_of pass.old) codes.now → (view_of pass.new).taken ≡ (view_of pass.old).taken }
+    ensures still_room { HasUnspentRoom (view_of pass.old) codes.now → HasUnspentRoom (view_of pass.new) codes.now }
     ensures made { (view_of pass.new).steps ≤ (view_of pass.old).steps + (specs.chunk_count n + 512) }
     ensures counted { steps.new + (view_of pass.old).steps ≡ steps.old + (view_of pass.new).steps }
 {
@@ -107,6 +109,7 @@ pub fn put_text<L: Ledger>(
     ensures inserted { result ≡ 0 → (view_of pass.new).inserted ≡ place ∷ (view_of pass.old).inserted }
     ensures found { result ≢ 0 → view_of pass.new ≡ bucket_read (view_of pass.old) place result }
     ensures still_ready { result ≢ 0 → IsReady pass.new codes.now }
+    ensures still_room { result ≢ 0 → HasUnspentRoom (view_of pass.old) codes.now → HasUnspentRoom (view_of pass.new) codes.now }
     ensures grows { Grows (view_of pass.old) (view_of pass.new) }
     ensures same_chunks { (view_of pass.new).taken ≡ (view_of pass.old).taken }
     ensures made { (view_of pass.new).steps ≡ (view_of pass.old).steps + 1 }

@@ -1,8 +1,8 @@
 //! The table that callers share, and their passes.
-ghost use Rattle.std.specs.Prelude.{◌≡◌, ◌≢◌, ◌↔◌, ◌⊎◌, ◌+◌, ◌<◌, ◌≤◌, ℕ, negsuc, Some, false, IfOk, IfErr, IsOk, OnOk, OnErr};
-ghost use Rattle.nfg_syn.specs.Known.{IsInternable, IsRowSize, IsSame, MapsBesides, crlf};
+ghost use Rattle.std.specs.Prelude.{◌≡◌, ◌≢◌, ◌↔◌, ◌⊎◌, ◌+◌, ◌<◌, ◌≤◌, ℕ, List, negsuc, length, slice_get, Some, IsSome, IfSome, false, IfOk, IfErr, IsOk, OnOk, OnErr};
+ghost use Rattle.nfg_syn.specs.Known.{IsInternable, IsRowSize, IsSame, MapsBesides, crlf, text_at};
 ghost use Rattle.nfg_syn.specs.Seen.{IsFirst, IsUnchanged, Keeps, Meets, SameCounts};
-ghost use Rattle.nfg_words.specs.Passes.{view_of};
+ghost use Rattle.nfg_words.specs.Passes.{HasUnspentRoom, view_of};
 ghost use Rattle.nfg_words.specs.Table.{IsWordPass, PutsAtMostIts, seen_of};
 
 use crate::pass::WordPass;
@@ -66,11 +66,14 @@ fn intern_uncounted<L: Ledger>(
     ensures row_full { result ≡ Err InternError.RowFull → (seen_of pass.new).full codes.now }
     ensures no_portion { result ≡ Err InternError.NoPortion → (seen_of pass.new).drained }
 
-    // It takes no memory, puts at most this text, and takes at most one chunk.
+    // It takes no memory, puts at most this text, and takes at most one chunk, and none without need.
     ensures never_out_of_memory { result ≢ Err InternError.OutOfMemory }
     ensures inserted { IfOk result (λ n. PutsAtMostIts n (view_of pass.old) (view_of pass.new)) }
     ensures not_inserted { OnErr result ((view_of pass.new).inserted ≡ (view_of pass.old).inserted) }
     ensures one_chunk { (view_of pass.new).taken ≤ (view_of pass.old).taken + 1 }
+    ensures no_chunk { HasUnspentRoom (view_of pass.old) codes.now → (view_of pass.new).taken ≡ (view_of pass.old).taken }
+    ensures known_no_chunk { (m : ℕ) → (seen_of pass.old).known m ≡ Some codes.now
+        → (view_of pass.new).taken ≡ (view_of pass.old).taken }
 {
     let mut steps = Steps::<L>::new(blank);
     match table.probe(pass, codes, &mut steps) {
@@ -110,17 +113,32 @@ impl Synthetics for WordTable {
         ensures row_full { result ≡ Err InternError.RowFull → (seen_of pass.new).full codes.now }
         ensures no_portion { result ≡ Err InternError.NoPortion → (seen_of pass.new).drained }
 
-        // It takes no memory, puts at most this text, and takes at most one chunk.
+        // It takes no memory, puts at most this text, and takes at most one chunk, and none without need.
         ensures never_out_of_memory { result ≢ Err InternError.OutOfMemory }
         ensures inserted { IfOk result (λ n. PutsAtMostIts n (view_of pass.old) (view_of pass.new)) }
         ensures not_inserted { OnErr result ((view_of pass.new).inserted ≡ (view_of pass.old).inserted) }
         ensures one_chunk { (view_of pass.new).taken ≤ (view_of pass.old).taken + 1 }
+        ensures no_chunk { HasUnspentRoom (view_of pass.old) codes.now → (view_of pass.new).taken ≡ (view_of pass.old).taken }
+        ensures known_no_chunk { (m : ℕ) → (seen_of pass.old).known m ≡ Some codes.now
+            → (view_of pass.new).taken ≡ (view_of pass.old).taken }
     {
         let _ = alloc;
         intern_uncounted::<Brand>(self, pass, codes, Blank::new(1))
     }
 
-    fn count(&self, pass: &mut WordPass, n: i32) -> usize {
+    fn count(&self, pass: &mut WordPass, n: i32) -> usize
+        requires known { IsSome (text_at (seen_of pass.old).known n) }
+        requires table { IsWordPass self.now pass.old }
+        ensures table { IsWordPass self.now pass.new }
+        ensures keeps { Keeps (seen_of pass.old) (seen_of pass.new) }
+        ensures counts { SameCounts (seen_of pass.old) (seen_of pass.new) }
+        ensures known { IsSame (seen_of pass.old).known (seen_of pass.new).known }
+        ensures count { IfSome (text_at (seen_of pass.old).known n) (λ t. result ≡ length t) }
+
+        // It puts no text and takes no chunk.
+        ensures not_inserted { (view_of pass.new).inserted ≡ (view_of pass.old).inserted }
+        ensures same_chunks { (view_of pass.new).taken ≡ (view_of pass.old).taken }
+    {
         if n == -1 {
             return 2;
         }
@@ -128,7 +146,19 @@ impl Synthetics for WordTable {
         count_at::<Brand>(&self.words, pass, size, place_of(n), Blank::new(1))
     }
 
-    fn code(&self, pass: &mut WordPass, n: i32, k: usize) -> u32 {
+    fn code(&self, pass: &mut WordPass, n: i32, k: usize) -> u32
+        requires known { (t : List ℕ) × (text_at (seen_of pass.old).known n ≡ Some t) × (k < length t) }
+        requires table { IsWordPass self.now pass.old }
+        ensures table { IsWordPass self.now pass.new }
+        ensures keeps { Keeps (seen_of pass.old) (seen_of pass.new) }
+        ensures counts { SameCounts (seen_of pass.old) (seen_of pass.new) }
+        ensures known { IsSame (seen_of pass.old).known (seen_of pass.new).known }
+        ensures code { IfSome (text_at (seen_of pass.old).known n) (λ t. slice_get t k ≡ Some result) }
+
+        // It puts no text and takes no chunk.
+        ensures not_inserted { (view_of pass.new).inserted ≡ (view_of pass.old).inserted }
+        ensures same_chunks { (view_of pass.new).taken ≡ (view_of pass.old).taken }
+    {
         if n == -1 {
             return if k == 0 { 13 } else { 10 };
         }

@@ -1,5 +1,6 @@
 //! What no clause says: that calls succeed with ample memory, and at which places texts stand.
-ghost use Rattle.nfg_words.specs.Table.{IsWordPass};
+ghost use Rattle.std.specs.Prelude.{◌≡◌};
+ghost use Rattle.nfg_words.specs.Table.{IsWordPass, seen_of};
 
 use crate::{WordPass, WordTable};
 use nfg_syn::{InternError, Refused, Synthetics};
@@ -8,8 +9,8 @@ use std::alloc::Global;
 use std::process::Abort;
 use std::test::Fail;
 
-// Interns a text of two code points.
-fn intern_pair(
+/// Interns a text of two code points.
+pub(crate) fn intern_pair(
     rt: &impl Abort,
     alloc: Global,
     table: &WordTable,
@@ -17,7 +18,8 @@ fn intern_pair(
     codes: [u32; 2],
 ) -> Result<i32, InternError>
     requires { IsWordPass table.now pass.old }
-    ensures { IsWordPass table.now pass.new }
+    ensures table { IsWordPass table.now pass.new }
+    ensures root { (seen_of pass.new).root ≡ (seen_of pass.old).root }
 {
     assert!(rt; is_text(codes.as_slice()));
     table.intern(alloc, pass, codes.as_slice())

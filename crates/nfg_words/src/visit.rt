@@ -2,7 +2,7 @@
 ghost use Rattle.std.specs.Prelude.{◌≡◌, ◌≢◌, ◌+◌, ◌*◌, ◌<◌, ◌≤◌, ◌∷◌, ℕ, Bool, Some, None, true, false, length, OnErr};
 ghost use Rattle.nfg_words.specs.Comparing.{ArePassed, HoldsOther};
 ghost use Rattle.nfg_words.specs.Layout.{chunk_count};
-ghost use Rattle.nfg_words.specs.Passes.{AreReadBut, AreReadInFull, Finds, IsHeld, IsPassOf, IsReady, LooksOn, PutsAtMost, ready_chunks, ready_steps, view_of};
+ghost use Rattle.nfg_words.specs.Passes.{AreReadBut, AreReadInFull, Finds, HasUnspentRoom, IsHeld, IsPassOf, IsReady, LooksOn, PutsAtMost, ready_chunks, ready_steps, view_of};
 ghost use Rattle.nfg_words.specs.ProbeTable.{IsStorable, probe_sequence};
 ghost use Rattle.nfg_words.specs.View.{Says, places_of};
 ghost use Rattle.nfg_words.specs.Writing.{AreChunksSpent};
@@ -40,6 +40,8 @@ fn get_ready<L: Ledger>(
     ensures made { result ≡ true → (view_of pass.new).steps + ready_steps n ready.new
         ≤ (view_of pass.old).steps + ready_steps n ready.old }
     ensures not_ready { result ≡ false → ready.old ≡ false }
+    ensures no_chunk { HasUnspentRoom (view_of pass.old) codes.now → (view_of pass.new).taken ≡ (view_of pass.old).taken }
+    ensures still_room { HasUnspentRoom (view_of pass.old) codes.now → HasUnspentRoom (view_of pass.new) codes.now }
     ensures spent_chunks { (view_of pass.new).taken ≤ (view_of pass.old).taken + 1 }
     ensures spent_made { (view_of pass.new).steps ≤ (view_of pass.old).steps + (chunk_count n + 512) }
     ensures counted { steps.new + (view_of pass.old).steps ≡ steps.old + (view_of pass.new).steps }
@@ -88,6 +90,8 @@ fn offer<L: Ledger>(
     ensures chunks { (bucket : ℕ) → result ≡ Some bucket → (view_of pass.new).taken + ready_chunks ready.new
         ≤ (view_of pass.old).taken + ready_chunks ready.old }
     ensures spent_chunks { result ≡ None → (view_of pass.new).taken ≤ (view_of pass.old).taken + 1 }
+    ensures no_chunk { HasUnspentRoom (view_of pass.old) codes.now → (view_of pass.new).taken ≡ (view_of pass.old).taken }
+    ensures still_room { result ≢ Some 0 → HasUnspentRoom (view_of pass.old) codes.now → HasUnspentRoom (view_of pass.new) codes.now }
     ensures made { (bucket : ℕ) → result ≡ Some bucket → (view_of pass.new).steps + ready_steps n ready.new
         ≤ (view_of pass.old).steps + ready_steps n ready.old + 1 }
     ensures not_ready { result ≡ None → ready.old ≡ false }
@@ -132,9 +136,12 @@ fn find_bucket<L: Ledger>(
     ensures spent { result ≡ None → AreChunksSpent n (view_of pass.new) }
     ensures spent_in_full { result ≡ None → AreReadInFull (view_of pass.new) }
     ensures unseen { result ≡ None → places_of (view_of pass.old) place ≡ None }
+    ensures seen { places_of (view_of pass.old) place ≢ None → (view_of pass.new).taken ≡ (view_of pass.old).taken }
     ensures chunks { (bucket : ℕ) → result ≡ Some bucket → (view_of pass.new).taken + ready_chunks ready.new
         ≤ (view_of pass.old).taken + ready_chunks ready.old }
     ensures spent_chunks { result ≡ None → (view_of pass.new).taken ≤ (view_of pass.old).taken + 1 }
+    ensures no_chunk { HasUnspentRoom (view_of pass.old) codes.now → (view_of pass.new).taken ≡ (view_of pass.old).taken }
+    ensures still_room { result ≢ Some 0 → HasUnspentRoom (view_of pass.old) codes.now → HasUnspentRoom (view_of pass.new) codes.now }
     ensures made { (bucket : ℕ) → result ≡ Some bucket → (view_of pass.new).steps + ready_steps n ready.new
         ≤ (view_of pass.old).steps + ready_steps n ready.old + 2 }
     ensures not_ready { result ≡ None → ready.old ≡ false }
@@ -181,6 +188,9 @@ pub fn visit<L: Ledger>(
     ensures chunks { (is : Bool) → result ≡ Ok is → (view_of pass.new).taken + ready_chunks ready.new
         ≤ (view_of pass.old).taken + ready_chunks ready.old }
     ensures spent_chunks { OnErr result ((view_of pass.new).taken ≤ (view_of pass.old).taken + ready_chunks ready.old) }
+    ensures no_chunk { HasUnspentRoom (view_of pass.old) codes.now → (view_of pass.new).taken ≡ (view_of pass.old).taken }
+    ensures still_room { result ≢ Ok true → HasUnspentRoom (view_of pass.old) codes.now → HasUnspentRoom (view_of pass.new) codes.now }
+    ensures seen { places_of (view_of pass.old) place ≢ None → (view_of pass.new).taken ≡ (view_of pass.old).taken }
     ensures made { (is : Bool) → result ≡ Ok is → (view_of pass.new).steps + ready_steps n ready.new
         ≤ (view_of pass.old).steps + ready_steps n ready.old + 514 }
     ensures spent_made { OnErr result ((view_of pass.new).steps ≤ (view_of pass.old).steps + ready_steps n ready.old + 514) }

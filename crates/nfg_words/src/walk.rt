@@ -2,7 +2,7 @@
 ghost use Rattle.std.specs.Prelude.{◌≡◌, ◌≢◌, ◌+◌, ◌*◌, ◌<◌, ◌≤◌, ℕ, length, IfOk, OnErr};
 ghost use Rattle.nfg_words.specs.Comparing.{ArePassed, IsFound};
 ghost use Rattle.nfg_words.specs.Layout.{chunk_count};
-ghost use Rattle.nfg_words.specs.Passes.{Finds, IsPassOf, LooksOn, PutsAtMost, view_of};
+ghost use Rattle.nfg_words.specs.Passes.{Finds, HasUnspentRoom, IsPassOf, LooksOn, PutsAtMost, view_of};
 ghost use Rattle.nfg_words.specs.ProbeTable.{IsStorable};
 ghost use Rattle.nfg_words.specs.View.{places_of};
 ghost use Rattle.nfg_words.specs.Writing.{AreChunksSpent};
@@ -37,6 +37,9 @@ pub fn walk<L: Ledger>(
     ensures full { result ≡ Err ProbeError.RowFull → ArePassed n (places_of (view_of pass.new)) codes.now n }
     ensures spent { result ≡ Err ProbeError.NoPortion → AreChunksSpent n (view_of pass.new) }
     ensures one_chunk { (view_of pass.new).taken ≤ (view_of pass.old).taken + 1 }
+    ensures no_chunk { HasUnspentRoom (view_of pass.old) codes.now → (view_of pass.new).taken ≡ (view_of pass.old).taken }
+    ensures found_no_chunk { (k : ℕ) → IsFound n (places_of (view_of pass.old)) k codes.now
+        → (view_of pass.new).taken ≡ (view_of pass.old).taken }
     ensures made { (view_of pass.new).steps ≤ (view_of pass.old).steps + (514 * n + chunk_count n + 512) }
     ensures counted { steps.new + (view_of pass.old).steps ≡ steps.old + (view_of pass.new).steps }
 {

@@ -1,8 +1,7 @@
-use Rattle.std.proofs.Common.{◌≡◌, ◌≢◌, ◌+◌, ◌-◌, ◌*◌, ◌/◌, ◌<◌, ◌^◌, ℕ, get_or, true, false, sym, ◌∙◌, arith}
+use Rattle.std.proofs.Common.{◌≡◌, ◌≢◌, inl, ◌+◌, ◌-◌, ◌/◌, ℕ, sym, ◌∙◌, arith}
 use Rattle.std.proofs.lemmas.Bool.{eqb-true, eqb-false}
-use Rattle.nfg_words.specs.Layout.{start_of, length_of, pair_at}
-use Rattle.nfg_words.specs.View.{Says}
-use Rattle.nfg_words.proofs.Comparing.{bucket_some, bucket_lengths, still_says, passed_more, last_named, last_justified, whole_same, whole_other, last_other, says_read, says_numbered}
+use Rattle.nfg_words.specs.Layout.{length_of, pair_at}
+use Rattle.nfg_words.proofs.Comparing.{read_other, bucket_some, bucket_lengths, still_says, passed_more, last_named, last_justified, whole_same, whole_other, last_other, says_read, says_numbered}
 use Rattle.nfg_words.proofs.compare.read_text.Goals as goal
 
 pub read_front-same-requires-clause-length : goal.read_front-same-requires-clause-length
@@ -27,10 +26,10 @@ number_codes-requires-clause-justified g c =
     let bucket = c.args.bucket in
     let long = (bucket_lengths c.args.n old sound place bucket c.requires.bucket).0 in
     let text = c.args.codes.now in
-    let count : ℕ = (c.length_of.result + 1) / 2 - 1 in
+    let count : ℕ = (c.length_of-length.result + 1) / 2 - 1 in
     let reads = c.read_front-same.ensures.reads in
     let same = c.read_front-same.ensures.same c.if-same.true in
-    let is_length = c.length_of.ensures in
+    let is_length = c.length_of-length.ensures in
     let is_start = c.start_of.ensures in
     let says = still_says old front place bucket reads c.requires.bucket in
     last_justified front place bucket count says (omega arith) text (bucket_some c.args.n old sound place bucket c.requires.bucket) (λ i. let fits = c.type_inv.codes i in omega (arith, fits)) same.0
@@ -53,10 +52,10 @@ returns-then-same-clause-here g c = λ is.
     let bucket = c.args.bucket in
     let long = (bucket_lengths c.args.n old sound place bucket c.requires.bucket).0 in
     let text = c.args.codes.now in
-    let count : ℕ = (c.length_of.result + 1) / 2 - 1 in
+    let count : ℕ = (c.length_of-length.result + 1) / 2 - 1 in
     let reads = c.read_front-same.ensures.reads in
     let same = c.read_front-same.ensures.same c.if-same.true in
-    let is_length = c.length_of.ensures in
+    let is_length = c.length_of-length.ensures in
     let is_start = c.start_of.ensures in
     let says = still_says old front place bucket reads c.requires.bucket in
     let found : c.number_codes.result ≡ c.pair_of-wanted.result = eqb-true _ _ is in
@@ -74,9 +73,9 @@ returns-then-same-clause-differs g c = λ is.
     let bucket = c.args.bucket in
     let long = (bucket_lengths c.args.n old sound place bucket c.requires.bucket).0 in
     let text = c.args.codes.now in
-    let count : ℕ = (c.length_of.result + 1) / 2 - 1 in
+    let count : ℕ = (c.length_of-length.result + 1) / 2 - 1 in
     let reads = c.read_front-same.ensures.reads in
-    let is_length = c.length_of.ensures in
+    let is_length = c.length_of-length.ensures in
     let is_start = c.start_of.ensures in
     let says = still_says old front place bucket reads c.requires.bucket in
     let other : c.number_codes.result ≢ c.pair_of-wanted.result = eqb-false _ _ is in
@@ -102,7 +101,7 @@ returns-else-same-clause-differs g c = λ is.
     let count : ℕ = (length_of bucket + 1) / 2 - 1 in
     let whole : count + 1 ≡ (length_of bucket + 1) / 2 = omega arith in
     let reads = c.read_front-same.ensures.reads in
-    let is_length = c.length_of.ensures in
+    let is_length = c.length_of-length.ensures in
     let is_start = c.start_of.ensures in
     let says = still_says old front place bucket reads c.requires.bucket in
     whole_other front place bucket count says whole text c.args.n new c.read_codes.ensures.table.sound c.read_codes.ensures.grows.codes (c.read_codes.ensures.grows.buckets place bucket says)
@@ -113,3 +112,15 @@ pub returns-else-same-clause-made : goal.returns-else-same-clause-made
 returns-else-same-clause-made g c =
     let long = (bucket_lengths c.args.n c.args.holder.now.me.0 c.requires.table.sound c.args.place c.args.bucket c.requires.bucket).1 in
     let front = c.read_front-same.ensures.made in let last = c.read_codes.ensures.made in omega arith
+
+pub returns-then-length-codes-clause-differs : goal.returns-then-length-codes-clause-differs
+returns-then-length-codes-clause-differs g c = λ is.
+    let new = c.read_words.new.holder.me.0 in
+    let on = c.read_words.ensures.reads in
+    read_other c.args.n new c.read_words.ensures.table.sound c.args.place c.args.bucket (still_says c.args.holder.now.me.0 new c.args.place c.args.bucket on c.requires.bucket)
+    c.args.codes.now c.read_words.ensures.recorded (inl (λ same. c.if-length-codes.true (c.length_of-length.ensures ∙ sym same)))
+
+pub returns-then-length-codes-clause-made : goal.returns-then-length-codes-clause-made
+returns-then-length-codes-clause-made g c =
+    let long = (bucket_lengths c.args.n c.args.holder.now.me.0 c.requires.table.sound c.args.place c.args.bucket c.requires.bucket).1 in
+    let all = c.read_words.ensures.made in omega arith

@@ -1,4 +1,4 @@
-use Rattle.std.proofs.Common.{◌∙◌, arith}
+use Rattle.std.proofs.Common.{arith}
 use Rattle.nfg_words.proofs.Asks.{codes_asks, seat_stays, tells_codes}
 use Rattle.nfg_words.proofs.loads.read_codes.Goals as goal
 use Rattle.nfg_words.specs.SoundLaws.{named_inside}

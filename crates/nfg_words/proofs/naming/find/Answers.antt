@@ -1,4 +1,4 @@
-use Rattle.std.proofs.Common.{sym, ap, ◌∙◌}
+use Rattle.std.proofs.Common.{sym, ◌∙◌}
 use Rattle.nfg_words.proofs.KnownLemmas.{full_passed, kept, known_besides, known_found, known_grown, known_same, spent_of}
 use Rattle.nfg_words.proofs.Looking.{Grows-refl}
 use Rattle.nfg_words.specs.Passes.{view_of}
@@ -48,3 +48,13 @@ returns-in-Err-clause-row_full g c = λ is.
 pub returns-in-Err-clause-no_portion : goal.returns-in-Err-clause-no_portion
 returns-in-Err-clause-no_portion g c = λ is.
     spent_of c.args.n (view_of c.walk.new.pass) c.walk.ensures.pass.held.seat.size (c.walk.ensures.spent (c.in-Err.is ∙ is))
+
+pub returns-in-Ok-clause-known_no_chunk : goal.returns-in-Ok-clause-known_no_chunk
+returns-in-Ok-clause-known_no_chunk g c = λ k e.
+    let old = view_of c.args.pass.now in
+    c.walk.ensures.found_no_chunk k (known_found c.args.n old old c.requires.pass.held.seat.sound (Grows-refl old) k c.args.codes.now e)
+
+pub returns-in-Err-clause-known_no_chunk : goal.returns-in-Err-clause-known_no_chunk
+returns-in-Err-clause-known_no_chunk g c = λ k e.
+    let old = view_of c.args.pass.now in
+    c.walk.ensures.found_no_chunk k (known_found c.args.n old old c.requires.pass.held.seat.sound (Grows-refl old) k c.args.codes.now e)

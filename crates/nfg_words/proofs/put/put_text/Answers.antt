@@ -1,7 +1,6 @@
-use Rattle.std.proofs.Common.{◌<◌, ℕ, sym, ap, ◌∙◌, subst, arith}
+use Rattle.std.proofs.Common.{◌<◌, ℕ, subst, arith}
 use Rattle.nfg_words.proofs.ProbeTableLemmas.{within_size}
 use Rattle.nfg_words.proofs.Putting.{can_publish, finds_published, full_published}
-use Rattle.nfg_words.specs.declared.view.View.{View}
 use Rattle.nfg_words.proofs.put.put_text.Goals as goal
 
 pub publish_bucket-found-requires-clause-place : goal.publish_bucket-found-requires-clause-place

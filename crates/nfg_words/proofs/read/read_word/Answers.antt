@@ -1,6 +1,5 @@
-use Rattle.std.proofs.Common.{refl, ap, ◌∙◌, arith}
-use Rattle.nfg_words.specs.Passes.{IsPassOf, LooksOn, view_of}
-use Rattle.nfg_words.specs.declared.view.View.{View}
+use Rattle.std.proofs.Common.{refl, arith}
+use Rattle.nfg_words.specs.Passes.{view_of}
 use Rattle.nfg_words.proofs.Comparing.{reads_on, says_read}
 use Rattle.nfg_words.proofs.KnownLemmas.{code_named, code_read}
 use Rattle.nfg_words.proofs.Looking.{Grows-trans, LooksOn-trans, ReadsOn-refl, looks_reads, pass_reads}

@@ -1,6 +1,6 @@
-use Rattle.std.proofs.Common.{◌≡◌, ◌≢◌, ℕ, Some, ap, ◌∙◌}
+use Rattle.std.proofs.Common.{◌≢◌, Some, ap}
 use Rattle.nfg_words.proofs.Comparing.{passed_more}
-use Rattle.nfg_words.proofs.Looking.{Finds-after, LooksOn-trans, looks_bucket, full_same}
+use Rattle.nfg_words.proofs.Looking.{LooksOn-trans, looks_bucket}
 use Rattle.nfg_words.specs.Passes.{view_of}
 use Rattle.nfg_words.proofs.visit.offer.Goals as goal
 

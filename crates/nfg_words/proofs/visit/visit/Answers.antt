@@ -1,4 +1,4 @@
-use Rattle.std.proofs.Common.{◌≡◌, ◌≢◌, ℕ, Some, Ok, true, false, ⊎_elim, sym, ap, ◌∙◌}
+use Rattle.std.proofs.Common.{◌≡◌, true, false, ⊎_elim, sym, ap, ◌∙◌}
 use Rattle.std.proofs.lemmas.Bool.{cases_Bool}
 use Rattle.nfg_words.proofs.Comparing.{passed_more}
 use Rattle.nfg_words.proofs.Looking.{Finds-after, finds_reads, full_reads, held_reads}

@@ -1,4 +1,4 @@
-use Rattle.std.proofs.Common.{◌≡◌, ℕ, ◌+◌, Ok, true, false, sym, ap, ◌∙◌, arith}
+use Rattle.std.proofs.Common.{Ok, sym, ap, ◌∙◌, arith}
 use Rattle.nfg_words.proofs.Comparing.{passed_more}
 use Rattle.nfg_words.proofs.Looking.{Finds-after, Grows-trans, LooksOn-trans, found_more, found_one, found_seen, found_within, ok_apart, passed_next}
 use Rattle.nfg_words.specs.Comparing.{IsFound}
@@ -39,6 +39,26 @@ returns-in-Err-clause-already_found g c = λ k found.
     absurd (found_seen c.args.n (places_of old) c.args.codes.now k c.loop-index.index _ (found_more c.args.n first old k c.args.codes.now c.loop-index.invariant.looks.grows found)
     c.loop-index.invariant.passed (sym c.probed_place-place.ensures.place) c.in-Err.ensures.unseen)
 
+pub returns-then-here-clause-no_chunk : goal.returns-then-here-clause-no_chunk
+returns-then-here-clause-no_chunk g c = λ room. c.visit.ensures.no_chunk (c.loop-index.invariant.still_room room) ∙ c.loop-index.invariant.no_chunk room
+
+pub returns-then-here-clause-found_no_chunk : goal.returns-then-here-clause-found_no_chunk
+returns-then-here-clause-found_no_chunk g c = λ k found. c.visit.ensures.seen (λ none.
+    let first = view_of c.args.pass.now in
+    let old = view_of c.loop-index.pass in
+    found_seen c.args.n (places_of old) c.args.codes.now k c.loop-index.index _ (found_more c.args.n first old k c.args.codes.now c.loop-index.invariant.looks.grows found)
+    c.loop-index.invariant.passed (sym c.probed_place-place.ensures.place) none) ∙ c.loop-index.invariant.found_no_chunk k found
+
+pub returns-in-Err-clause-no_chunk : goal.returns-in-Err-clause-no_chunk
+returns-in-Err-clause-no_chunk g c = λ room. c.visit.ensures.no_chunk (c.loop-index.invariant.still_room room) ∙ c.loop-index.invariant.no_chunk room
+
+pub returns-in-Err-clause-found_no_chunk : goal.returns-in-Err-clause-found_no_chunk
+returns-in-Err-clause-found_no_chunk g c = λ k found. c.visit.ensures.seen (λ none.
+    let first = view_of c.args.pass.now in
+    let old = view_of c.loop-index.pass in
+    found_seen c.args.n (places_of old) c.args.codes.now k c.loop-index.index _ (found_more c.args.n first old k c.args.codes.now c.loop-index.invariant.looks.grows found)
+    c.loop-index.invariant.passed (sym c.probed_place-place.ensures.place) none) ∙ c.loop-index.invariant.found_no_chunk k found
+
 pub loop-index-preserved : goal.loop-index-preserved
 loop-index-preserved g c =
     let is = c.in-Ok.is ∙ ap (λ b. Ok b) c.if-here.false in
@@ -54,6 +74,13 @@ loop-index-preserved g c =
       passed = passed_next c.args.n new text c.loop-index.index c.probed_place-place.result
           (passed_more c.args.n old new text c.loop-index.index looks.grows.buckets looks.grows.codes inv.passed) (sym c.probed_place-place.ensures.place) (c.visit.ensures.other is);
       chunks = let now = c.visit.ensures.chunks c.in-Ok.here c.in-Ok.is in let was = inv.chunks in omega arith;
+      no_chunk = λ room. c.visit.ensures.no_chunk (inv.still_room room) ∙ inv.no_chunk room;
+      still_room = λ room. c.visit.ensures.still_room (ok_apart c.visit.result is) (inv.still_room room);
+      found_no_chunk = λ k found. c.visit.ensures.seen (λ none.
+          let first = view_of c.args.pass.now in
+          let old = view_of c.loop-index.pass in
+          found_seen c.args.n (places_of old) c.args.codes.now k c.loop-index.index _ (found_more c.args.n first old k c.args.codes.now c.loop-index.invariant.looks.grows found)
+          c.loop-index.invariant.passed (sym c.probed_place-place.ensures.place) none) ∙ inv.found_no_chunk k found;
       made = let now = c.visit.ensures.made c.in-Ok.here c.in-Ok.is in let was = inv.made in omega arith;
       counted = let now = c.visit.ensures.counted in let was = inv.counted in omega arith;
     }

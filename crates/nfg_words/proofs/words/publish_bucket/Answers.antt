@@ -1,4 +1,4 @@
-use Rattle.std.proofs.Common.{◌∙◌, arith}
+use Rattle.std.proofs.Common.{arith}
 use Rattle.nfg_words.proofs.Asks.{publish_asks, seat_stays}
 use Rattle.nfg_words.proofs.words.publish_bucket.Goals as goal
 

@@ -1,4 +1,4 @@
-use Rattle.std.proofs.Common.{◌∙◌, arith}
+use Rattle.std.proofs.Common.{arith}
 use Rattle.nfg_words.proofs.Asks.{read_asks, seat_stays}
 use Rattle.nfg_words.proofs.words.read_bucket.Goals as goal
 

@@ -1,4 +1,4 @@
-use Rattle.std.proofs.Common.{◌≡◌, ◌≢◌, ◌∙◌, arith}
+use Rattle.std.proofs.Common.{◌≡◌, ◌≢◌, arith}
 use Rattle.std.proofs.lemmas.Bool.Decides.{nat_tests}
 use Rattle.nfg_words.proofs.Asks.{seat_stays, take_asks, tells_taken, tells_found}
 use Rattle.nfg_words.proofs.words.take_chunk.Goals as goal

@@ -1,4 +1,4 @@
-use Rattle.std.proofs.Common.{◌∙◌, arith}
+use Rattle.std.proofs.Common.{arith}
 use Rattle.nfg_words.proofs.Asks.{seat_stays, write_asks, tells_written}
 use Rattle.nfg_words.proofs.words.write_codes.Goals as goal
 

@@ -1,4 +1,3 @@
-use Rattle.nfg_words.specs.Passes.{IsPassOf}
 use Rattle.nfg_words.proofs.MeetLemmas.{keeps_met, meets_met, pass_joined}
 use Rattle.nfg_words.proofs.table.WordTableShared.meet.Goals as goal
 
