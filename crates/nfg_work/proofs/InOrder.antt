@@ -22,7 +22,8 @@ use Rattle.nfg_work.specs.Answers.{IsLast, IsAnswered, IsStopAt}
 use Rattle.nfg_work.proofs.Answered.{Holds-first, drop-at, drop-past, behind}
 use Rattle.nfg_work.proofs.InNfg.{first_in_nfg, next_in_nfg}
 use Rattle.nfg_work.proofs.InUse.{AreNumbered-grows}
-use Rattle.nfg_work.proofs.Outcomes.{AreRight-grows, reached_next, given_reachable, GrowsBy-next}
+use Rattle.nfg_work.proofs.Outcomes.{reached_next, given_reachable, GrowsBy-next}
+use Rattle.nfg_work.proofs.RightOutcomes.{AreRight-grows}
 use Rattle.nfg_work.proofs.Reached.{HasReached, rest_of, step_reached}
 
 -- how far the answers have come

@@ -33,6 +33,7 @@ use Rattle.nfg_work.specs.Planned.{loads_in, IsPlan, IsDefinition}
 use Rattle.nfg_work.specs.Reach.{Reached, if_short, decoded_value, load_value, cat_value, sub_value, rep_value, value_of, IsReachable}
 use Rattle.nfg_work.specs.Outcomes.{reached_at, given_value, IsOutcomeOf, IsRightAt, AreRight, GrowsBy}
 use Rattle.nfg_work.specs.Jobs.{IsStringAt, IsOutcomeFor, IsJobDone}
+use Rattle.nfg_work.proofs.Growth.{growth_same}
 use Rattle.nfg_work.proofs.Answered.{command_at, command_is}
 use Rattle.nfg_work.proofs.InUse.{learned_back}
 use Rattle.nfg_work.proofs.Members.{is_member-front, is_member-kept}
@@ -44,7 +45,7 @@ use Rattle.nfg_work.proofs.ReachedInNfg.{reached_in_nfg}
 
 -- nothing becomes known
 pub grows_none : (script : List NumberedCommand) (reads : List FileRead) (old new : Texts) → IsSame old new → GrowsBy script reads old new
-grows_none script reads old new same k t e = inl (sym (same k) ∙ e)
+grows_none script reads = growth_same (IsReachable script reads)
 
 -- clusters of the value of a command become known
 grows_given : (script : List NumberedCommand) (reads : List FileRead) (k : ℕ) (numbered : NumberedCommand) (value : Value) (front rest : List (List ℕ)) (old new : Texts)
@@ -142,12 +143,12 @@ cat_wanted-given a b v e = unless_many-given (nat_lt join_limit (length a.cluste
 rep_wanted-given : (a v : Value) (times : ℕ) → rep_wanted a times ≡ Ok v → rep_value (Some a) times ≡ Some v
 rep_wanted-given a v times e = unless_many-given (nat_lt join_limit (length a.clusters * times)) (repeated a times) v e
 
-file_value-given : (decoded : Decoded) (v : Value) → file_value decoded ≡ Ok v → decoded_value decoded ≡ Some v
+pub file_value-given : (decoded : Decoded) (v : Value) → file_value decoded ≡ Ok v → decoded_value decoded ≡ Some v
 file_value-given (Ok text) v e = unless_long-given (flat (graphemes_of text)) v e
 file_value-given (Err at) v e = cc
 
 -- what is given where the command is this
-given_at : (reached : Reached) (numbered : NumberedCommand) (command : Command) (value : Value) → numbered.command ≡ command
+pub given_at : (reached : Reached) (numbered : NumberedCommand) (command : Command) (value : Value) → numbered.command ≡ command
     → given_value reached numbered command ≡ Some value → given_value reached numbered numbered.command ≡ Some value
 given_at reached numbered command value is given = ap (given_value reached numbered) is ∙ given
 

@@ -22,6 +22,10 @@ pub mod Leveled
 pub mod Reached
 pub mod Taken
 pub mod Brought
+pub mod Growth
+pub mod PartGrowth
+pub mod LoadedParts
+pub mod PartBounds
 pub mod Outcomes
 pub mod InOrder
 pub mod Sharing
@@ -33,4 +37,11 @@ pub mod PlanMade
 pub mod SharedRuns
 pub mod GivenOutcomes
 pub mod MetWorkers
+pub mod PartStrings
+pub mod LargeLoads
 pub mod RightOutcomes
+pub mod Bodies
+pub mod CutPlaces
+pub mod WholeFile
+pub mod JoinedFile
+pub mod FlatLists

@@ -13,9 +13,10 @@ use Rattle.nfg_work.specs.declared.outcome.Outcome.{Outcome}
 use Rattle.nfg_work.specs.declared.outcome.Outcome.TheVariants.{Nothing}
 use Rattle.nfg_work.specs.declared.output.FileRead.{FileRead}
 use Rattle.nfg_work.specs.declared.worker.Given.{Given}
-use Rattle.nfg_work.specs.Outcomes.{reached_at, IsOutcomeOf, IsRightAt, AreRight}
+use Rattle.nfg_work.specs.Outcomes.{IsRightAt, AreRight}
 use Rattle.nfg_work.specs.Workers.{AreGivenRight, HasGiven, HasWorked, HasMet, IsReady, IsDone, CountAlike}
-use Rattle.nfg_work.proofs.GivenOutcomes.{AreRight-grows, AreGivenRight-grows, GrowsBy-same, GrowsBy-trans, GrowsBy-within, GrowsBy-union, IsWithin-met}
+use Rattle.nfg_work.proofs.RightOutcomes.{AreRight-grows, AreRight-none}
+use Rattle.nfg_work.proofs.GivenOutcomes.{AreGivenRight-grows, GrowsBy-same, GrowsBy-trans, GrowsBy-within, GrowsBy-union, IsWithin-met}
 
 -- nothing was done yet
 pub HasGiven-start : (script : List NumberedCommand) (reads : List FileRead) (known : Texts) (given : List Given) → AreGivenRight known script reads given
@@ -130,12 +131,9 @@ length-popped all rest last one popped is =
 -- where nothing was given yet, all is right
 pub AreRight-nothing : (known : Texts) (script : List NumberedCommand) (reads : List FileRead) (outcomes : List Outcome) → length outcomes ≡ length script
     → All (λ outcome. outcome ≡ Nothing) outcomes → AreRight known script reads outcomes
-AreRight-nothing known script reads outcomes long none = record {
-  as_many = long;
-  right = λ k outcome at numbered here.
-      let is : outcome ≡ Nothing = sym (get_or_from_slice_get outcomes k outcome outcome at) ∙ none k outcome (slice_get_within outcomes k outcome at) in
-      subst (IsOutcomeOf known (reached_at script reads k) numbered numbered.command) (sym is) tt;
-}
+AreRight-nothing known script reads outcomes long none =
+    AreRight-none known script reads outcomes long
+    (λ k outcome at. sym (get_or_from_slice_get outcomes k outcome outcome at) ∙ none k outcome (slice_get_within outcomes k outcome at))
 
 -- a list that is lent whole comes back whole
 pub lent_back : {A : Type 0} (count : ℕ) (old new : List A) → length new ≡ length old → count ≡ length old

@@ -1,97 +1,25 @@
--- Outcomes that are right stay so, and the values that commands give are reached.
-use Rattle.std.proofs.Common.{◌≡◌, ℕ, zero, suc, ◌≤◌, ◌⊎◌, inl, inr, true, List, [], ◌∷◌, ◌++◌, length, take, bytes_eq, slice_get, slice_set, Option, Some, None, refl, sym, ap, ◌∙◌, subst}
+-- An outcome that was taken leaves nothing, and the values that commands give are reached.
+use Rattle.std.proofs.Common.{◌≡◌, ℕ, zero, suc, ◌≤◌, inl, inr, true, List, [], ◌∷◌, ◌++◌, length, take, bytes_eq, slice_get, slice_set, Option, Some, None, refl, sym, ◌∙◌, subst}
 use Rattle.std.specs.Set.{is_member}
-use Rattle.nfg_syn.specs.Known.{Texts, IsWithin, IsKnowledge}
+use Rattle.nfg_syn.specs.Known.{Texts, IsKnowledge}
 use Rattle.nfg_script.specs.declared.command.Command.{Command}
 use Rattle.nfg_script.specs.declared.command.Command.TheVariants.{Load, Text, Cat, Sub, Rep, Find, Rfind, Eq, Cmp, Len, Show, Shape, Put}
 use Rattle.nfg_script.specs.Script.{NumberedCommand}
 use Rattle.nfg_work.specs.declared.outcome.Outcome.{Outcome}
-use Rattle.nfg_work.specs.declared.outcome.Outcome.TheVariants.{Nothing, Made, Found, Compared, Ordered}
+use Rattle.nfg_work.specs.declared.outcome.Outcome.TheVariants.{Nothing}
 use Rattle.nfg_work.specs.declared.output.FileRead.{FileRead}
 use Rattle.nfg_work.specs.Values.{Value}
 use Rattle.nfg_work.specs.Reach.{Reached, reach_step, reached_from, values_of, IsOfValue, IsReachable}
-use Rattle.nfg_work.specs.Outcomes.{reached_at, first_reached, given_value, IsOutcomeOf, AreRight, GrowsBy}
+use Rattle.nfg_work.specs.Outcomes.{reached_at, first_reached, given_value, AreRight, GrowsBy}
 use Rattle.nfg_work.specs.Given.{IsClusterOf, GrowsWith}
-use Rattle.nfg_work.proofs.Strings.{IsStringOf-grows}
+use Rattle.nfg_work.proofs.RightOutcomes.{AreRight-set}
 
 -- ---- outcomes
-
--- more knowledge changes no outcome
-pub IsOutcomeOf-grows : (old new : Texts) → IsWithin old new → (reached : Reached) (numbered : NumberedCommand) (command : Command) (outcome : Outcome)
-    → IsOutcomeOf old reached numbered command outcome → IsOutcomeOf new reached numbered command outcome
-IsOutcomeOf-grows old new within reached numbered command Nothing right = tt
-IsOutcomeOf-grows old new within reached numbered command (Made string) right = (right.0, right.1, IsStringOf-grows old new within string right.0 right.2)
-IsOutcomeOf-grows old new within reached numbered (Load name e) (Found place) right = absurd right
-IsOutcomeOf-grows old new within reached numbered (Text name) (Found place) right = absurd right
-IsOutcomeOf-grows old new within reached numbered (Cat name a b) (Found place) right = absurd right
-IsOutcomeOf-grows old new within reached numbered (Sub name a start count) (Found place) right = absurd right
-IsOutcomeOf-grows old new within reached numbered (Rep name a count) (Found place) right = absurd right
-IsOutcomeOf-grows old new within reached numbered (Find a b at) (Found place) right = right
-IsOutcomeOf-grows old new within reached numbered (Rfind a b at) (Found place) right = right
-IsOutcomeOf-grows old new within reached numbered (Eq a b) (Found place) right = absurd right
-IsOutcomeOf-grows old new within reached numbered (Cmp a b) (Found place) right = absurd right
-IsOutcomeOf-grows old new within reached numbered (Len a) (Found place) right = absurd right
-IsOutcomeOf-grows old new within reached numbered (Show a) (Found place) right = absurd right
-IsOutcomeOf-grows old new within reached numbered (Shape a) (Found place) right = absurd right
-IsOutcomeOf-grows old new within reached numbered (Put a enc) (Found place) right = absurd right
-IsOutcomeOf-grows old new within reached numbered (Load name e) (Compared holds) right = absurd right
-IsOutcomeOf-grows old new within reached numbered (Text name) (Compared holds) right = absurd right
-IsOutcomeOf-grows old new within reached numbered (Cat name a b) (Compared holds) right = absurd right
-IsOutcomeOf-grows old new within reached numbered (Sub name a start count) (Compared holds) right = absurd right
-IsOutcomeOf-grows old new within reached numbered (Rep name a count) (Compared holds) right = absurd right
-IsOutcomeOf-grows old new within reached numbered (Find a b at) (Compared holds) right = absurd right
-IsOutcomeOf-grows old new within reached numbered (Rfind a b at) (Compared holds) right = absurd right
-IsOutcomeOf-grows old new within reached numbered (Eq a b) (Compared holds) right = right
-IsOutcomeOf-grows old new within reached numbered (Cmp a b) (Compared holds) right = absurd right
-IsOutcomeOf-grows old new within reached numbered (Len a) (Compared holds) right = absurd right
-IsOutcomeOf-grows old new within reached numbered (Show a) (Compared holds) right = absurd right
-IsOutcomeOf-grows old new within reached numbered (Shape a) (Compared holds) right = absurd right
-IsOutcomeOf-grows old new within reached numbered (Put a enc) (Compared holds) right = absurd right
-IsOutcomeOf-grows old new within reached numbered (Load name e) (Ordered ordering) right = absurd right
-IsOutcomeOf-grows old new within reached numbered (Text name) (Ordered ordering) right = absurd right
-IsOutcomeOf-grows old new within reached numbered (Cat name a b) (Ordered ordering) right = absurd right
-IsOutcomeOf-grows old new within reached numbered (Sub name a start count) (Ordered ordering) right = absurd right
-IsOutcomeOf-grows old new within reached numbered (Rep name a count) (Ordered ordering) right = absurd right
-IsOutcomeOf-grows old new within reached numbered (Find a b at) (Ordered ordering) right = absurd right
-IsOutcomeOf-grows old new within reached numbered (Rfind a b at) (Ordered ordering) right = absurd right
-IsOutcomeOf-grows old new within reached numbered (Eq a b) (Ordered ordering) right = absurd right
-IsOutcomeOf-grows old new within reached numbered (Cmp a b) (Ordered ordering) right = right
-IsOutcomeOf-grows old new within reached numbered (Len a) (Ordered ordering) right = absurd right
-IsOutcomeOf-grows old new within reached numbered (Show a) (Ordered ordering) right = absurd right
-IsOutcomeOf-grows old new within reached numbered (Shape a) (Ordered ordering) right = absurd right
-IsOutcomeOf-grows old new within reached numbered (Put a enc) (Ordered ordering) right = absurd right
-
-pub AreRight-grows : (old new : Texts) → IsWithin old new → (script : List NumberedCommand) (reads : List FileRead) (outcomes : List Outcome)
-    → AreRight old script reads outcomes → AreRight new script reads outcomes
-AreRight-grows old new within script reads outcomes are = record {
-  as_many = are.as_many;
-  right = λ k outcome at numbered here. IsOutcomeOf-grows old new within (reached_at script reads k) numbered numbered.command outcome (are.right k outcome at numbered here);
-}
-
-set-length : (xs : List Outcome) (k : ℕ) (y : Outcome) → length (slice_set xs k y) ≡ length xs
-set-length [] zero y = refl
-set-length [] (suc k) y = refl
-set-length (x ∷ xs) zero y = refl
-set-length (x ∷ xs) (suc k) y = ap suc (set-length xs k y)
-
-set-get : (xs : List Outcome) (k j : ℕ) (y x : Outcome) → slice_get (slice_set xs k y) j ≡ Some x → (y ≡ x) ⊎ (slice_get xs j ≡ Some x)
-set-get [] zero j y x e = inr e
-set-get [] (suc k) j y x e = inr e
-set-get (z ∷ xs) zero zero y x e = inl cc
-set-get (z ∷ xs) zero (suc j) y x e = inr e
-set-get (z ∷ xs) (suc k) zero y x e = inr e
-set-get (z ∷ xs) (suc k) (suc j) y x e = set-get xs k j y x e
 
 -- nothing is right too
 pub AreRight-taken : (known : Texts) (script : List NumberedCommand) (reads : List FileRead) (outcomes : List Outcome) (k : ℕ)
     → AreRight known script reads outcomes → AreRight known script reads (slice_set outcomes k Nothing)
-AreRight-taken known script reads outcomes k are = record {
-  as_many = set-length outcomes k Nothing ∙ are.as_many;
-  right = λ j outcome at numbered here. elim (set-get outcomes k j Nothing outcome at) [
-    | inl same ↦ subst (IsOutcomeOf known (reached_at script reads j) numbered numbered.command) same tt
-    | inr there ↦ are.right j outcome there numbered here
-  ];
-}
+AreRight-taken known script reads outcomes k are = AreRight-set known script reads outcomes k Nothing are (λ numbered here. tt)
 
 -- ---- values
 

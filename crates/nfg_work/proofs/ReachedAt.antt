@@ -26,7 +26,7 @@ step_values reached numbered (Sub name a start count) = refl
 step_values reached numbered (Rep name a count) = refl
 step_values reached numbered command = sym (append-nil reached.values)
 
-step_reads : (reached : Reached) (numbered : NumberedCommand) (command : Command)
+pub step_reads : (reached : Reached) (numbered : NumberedCommand) (command : Command)
     → (reach_step reached numbered command).reads ≡ files_behind command reached.reads
 step_reads reached numbered (Load name e) = refl
 step_reads reached numbered command = refl

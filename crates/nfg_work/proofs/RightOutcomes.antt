@@ -12,6 +12,7 @@ use Rattle.nfg_work.specs.Reach.{Reached}
 use Rattle.nfg_work.specs.Outcomes.{reached_at, IsOutcomeOf, IsRightAt, AreRight}
 use Rattle.nfg_work.proofs.Strings.{IsStringOf-grows}
 
+-- more knowledge changes no outcome
 IsOutcomeOf-grows : (old new : Texts) → IsWithin old new → (reached : Reached) (numbered : NumberedCommand) (command : Command) (outcome : Outcome)
     → IsOutcomeOf old reached numbered command outcome → IsOutcomeOf new reached numbered command outcome
 IsOutcomeOf-grows old new within reached numbered command Nothing is = tt
@@ -19,13 +20,17 @@ IsOutcomeOf-grows old new within reached numbered command (Made string) is = (is
 IsOutcomeOf-grows old new within reached numbered (Find a b at) (Found place) is = is
 IsOutcomeOf-grows old new within reached numbered command outcome is = is
 
+pub IsRightAt-grows : (old new : Texts) → IsWithin old new → (script : List NumberedCommand) (reads : List FileRead) (k : ℕ) (outcome : Outcome)
+    → IsRightAt old script reads k outcome → IsRightAt new script reads k outcome
+IsRightAt-grows old new within script reads k outcome is = λ numbered at.
+    IsOutcomeOf-grows old new within (reached_at script reads k) numbered numbered.command outcome (is numbered at)
+
 -- what is right stays so
-pub AreRight-grows : (old new : Texts) (script : List NumberedCommand) (reads : List FileRead) (outcomes : List Outcome) → IsWithin old new
+pub AreRight-grows : (old new : Texts) → IsWithin old new → (script : List NumberedCommand) (reads : List FileRead) (outcomes : List Outcome)
     → AreRight old script reads outcomes → AreRight new script reads outcomes
-AreRight-grows old new script reads outcomes within are = record {
+AreRight-grows old new within script reads outcomes are = record {
   as_many = are.as_many;
-  right = λ k outcome here numbered there.
-      IsOutcomeOf-grows old new within (reached_at script reads k) numbered numbered.command outcome (are.right k outcome here numbered there);
+  right = λ k outcome at. IsRightAt-grows old new within script reads k outcome (are.right k outcome at);
 }
 
 -- nothing is always right

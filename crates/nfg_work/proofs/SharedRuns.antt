@@ -1,6 +1,5 @@
 -- A script is answered behind what its jobs have given.
-use Rattle.std.proofs.Common.{◌≡◌, ◌≢◌, ◌⊎◌, inl, inr, ℕ, ◌+◌, ◌*◌, ◌≤◌, List, [], ◌∷◌, length, Some, None, Result, Ok, Err, refl, sym, ◌∙◌, arith, zero, suc}
-use Rattle.nfg_syn.specs.Known.{Texts}
+use Rattle.std.proofs.Common.{◌≡◌, ◌≢◌, inl, ℕ, ◌+◌, ◌-◌, ◌*◌, ◌≤◌, List, [], ◌∷◌, length, None, Result, Ok, Err, refl, sym, ◌∙◌, subst, arith, zero, suc}
 use Rattle.nfg_syn.specs.Seen.{Seen}
 use Rattle.nfg_script.specs.Script.{NumberedCommand}
 use Rattle.nfg_work.specs.declared.output.FileRead.{FileRead}
@@ -9,16 +8,9 @@ use Rattle.nfg_work.specs.declared.shared_error.SharedError.{SharedError}
 use Rattle.nfg_work.specs.declared.shared_error.SharedError.TheVariants.{RowFull, NoPortion, OutOfMemory}
 use Rattle.nfg_work.specs.Evaluation.{evaluate, first_state}
 use Rattle.nfg_work.specs.Outcomes.{GrowsBy}
-use Rattle.nfg_work.specs.Answers.{IsAnswer}
 use Rattle.nfg_work.specs.Workers.{CountAlike}
 use Rattle.nfg_work.specs.Sharing.{IsSharedAnswer, HasMetOne, MeetsOne, CountAlikeUnless}
-
-GrowsBy-trans : (script : List NumberedCommand) (reads : List FileRead) (f g h : Texts) → GrowsBy script reads f g → GrowsBy script reads g h
-    → GrowsBy script reads f h
-GrowsBy-trans script reads f g h first second = λ k t e. elim (second k t e) [
-  | inl before ↦ first k t before
-  | inr reachable ↦ inr reachable
-]
+use Rattle.nfg_work.proofs.GivenOutcomes.{GrowsBy-trans}
 
 -- what was known at first is known when the answers begin
 pub answer_behind : (places : ℕ) (script : List NumberedCommand) (reads : List FileRead) (old mid new : Seen) (result : Result Output SharedError)
@@ -28,19 +20,26 @@ answer_behind places script reads old mid new (Err (RowFull text)) grown is = (G
 answer_behind places script reads old mid new (Err NoPortion) grown is = (GrowsBy-trans script reads old.known mid.known new.known grown is.0, is.1)
 answer_behind places script reads old mid new (Err OutOfMemory) grown is = tt
 
-one_more : (workers count : ℕ) (old mid new : Seen) → 1 ≤ workers → count ≢ 0 → CountAlike (workers * count) old mid → HasMetOne mid new
+-- loads of large files and jobs of levels, and one pass more
+one_more : (workers count : ℕ) (old mid new : Seen) → 1 ≤ workers → count ≢ 0 → CountAlike ((workers - 1) * count + workers * count) old mid → HasMetOne mid new
     → CountAlike (2 * workers * count) old new
-one_more workers zero old mid new some many alike one = absurd (many refl)
-one_more workers (suc count) old mid new some many alike one = record {
+one_more zero count old mid new some many alike one = absurd (omega (arith, some))
+one_more (suc others) zero old mid new some many alike one = absurd (many refl)
+one_more (suc others) (suc count) old mid new some many alike one = record {
   by = alike.by + 1;
   forks = let first = alike.forks in let next = one.forks in omega (arith, first, next);
   meets = let first = alike.meets in let next = one.meets in omega (arith, first, next);
-  within = let within = alike.within in grind (arith, within, some);
+  within =
+      let one_less : suc others - 1 ≡ others = omega arith in
+      let most = alike.by in
+      let within : most ≤ others * suc count + suc others * suc count =
+      subst (λ n. most ≤ n * suc count + suc others * suc count) one_less alike.within in
+      grind (arith, within);
 }
 
 -- the pass of the answers is one more
 pub counted_behind : (workers count : ℕ) (old mid new : Seen) (result : Result Output SharedError) → 1 ≤ workers → count ≢ 0
-    → CountAlike (workers * count) old mid → MeetsOne mid new result → CountAlikeUnless (2 * workers * count) old new result
+    → CountAlike ((workers - 1) * count + workers * count) old mid → MeetsOne mid new result → CountAlikeUnless (2 * workers * count) old new result
 counted_behind workers count old mid new (Ok output) some many alike one = one_more workers count old mid new some many alike one
 counted_behind workers count old mid new (Err (RowFull text)) some many alike one = one_more workers count old mid new some many alike one
 counted_behind workers count old mid new (Err NoPortion) some many alike one = one_more workers count old mid new some many alike one

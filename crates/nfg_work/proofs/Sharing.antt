@@ -1,5 +1,5 @@
 -- Answers over a fork, which is met in the pass that it was forked from.
-use Rattle.std.proofs.Common.{◌≡◌, ◌⊎◌, inl, inr, ℕ, ◌+◌, List, Option, Some, None, Result, Ok, Err, refl, sym, ap, ◌∙◌, subst, arith}
+use Rattle.std.proofs.Common.{◌≡◌, ◌⊎◌, inl, inr, ℕ, ◌+◌, List, Option, Some, None, Result, Ok, Err, sym, ◌∙◌, subst, arith}
 use Rattle.nfg_syn.specs.declared.synthetics.InternError.{InternError}
 use Rattle.nfg_syn.specs.declared.synthetics.InternError.TheVariants.{RowFull, NoPortion, OutOfMemory}
 use Rattle.nfg_syn.specs.Known.{Texts, IsSame, IsUnion, IsUnknown, IsWithin, or_else}
@@ -13,7 +13,8 @@ use Rattle.nfg_work.specs.Answers.{IsRefusedText, IsAnswered}
 use Rattle.nfg_work.specs.Recording.{recorded}
 use Rattle.nfg_work.specs.Sharing.{told, IsSharedAnswer, HasMetOne, MeetsOne}
 use Rattle.nfg_work.proofs.InUse.{AreNumbered-grows}
-use Rattle.nfg_work.proofs.Outcomes.{AreRight-grows}
+use Rattle.nfg_work.proofs.GivenOutcomes.{IsWithin-met}
+use Rattle.nfg_work.proofs.RightOutcomes.{AreRight-grows}
 
 -- what one of two passes knew
 either : (o p : Option (List ℕ)) (t : List ℕ) → or_else o p ≡ Some t → (o ≡ Some t) ⊎ (p ≡ Some t)
@@ -22,14 +23,6 @@ either (Some u) p t e = inl e
 
 known_before : (one other both : Texts) → IsUnion one other both → (k : ℕ) (t : List ℕ) → both k ≡ Some t → (one k ≡ Some t) ⊎ (other k ≡ Some t)
 known_before one other both union k t e = either (one k) (other k) t (sym (union.entries k) ∙ e)
-
--- what the second knew is known
-within_second : (one other both : Texts) → IsUnion one other both → IsWithin other both
-within_second one other both union k t e = by (one k) refl
-  where
-    by : (o : Option (List ℕ)) → one k ≡ o → both k ≡ Some t
-    by None first = union.entries k ∙ ap (λ v. or_else v (other k)) first ∙ e
-    by (Some u) first = let same = union.agree k u t first e in union.entries k ∙ ap (λ v. or_else v (other k)) first ∙ ap (λ v. Some v) same
 
 -- the passes on the way: before and behind the fork, the fork before and behind the answers, and the pass that it is met in
 pub record IsWay (old mid fork asked new : Seen) : Type 0 where
@@ -77,7 +70,7 @@ way_answer places script reads old mid fork asked new before noted (Ok output) w
       state = used.state;
       after = used.after;
       last = used.last;
-      numbered = AreNumbered-grows asked.known new.known used.state.used (within_second mid.known asked.known new.known way.met.known) used.numbered;
+      numbered = AreNumbered-grows asked.known new.known used.state.used (IsWithin-met mid.known asked.known new.known way.met.known) used.numbered;
     };
   },
 )

@@ -3,6 +3,7 @@ pub mod Printing
 pub mod Evaluation
 pub mod Holding
 pub mod Making
+pub mod Growth
 pub mod Outcomes
 pub mod Given
 pub mod Answers
@@ -11,6 +12,8 @@ pub mod Workers
 pub mod Sharing
 pub mod Planned
 pub mod Jobs
+pub mod Parts
+pub mod PartJoining
 pub mod Laws
 pub mod Levels
 pub mod Reach

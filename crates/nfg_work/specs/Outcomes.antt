@@ -1,5 +1,5 @@
 -- What jobs give ahead of the answers, and when it is right (this project's own).
-use Rattle.std.specs.Prelude.{◌≡◌, ℕ, List, [], ◌++◌, length, take, slice_get, Option, Some, None, ◌⊎◌}
+use Rattle.std.specs.Prelude.{◌≡◌, ℕ, List, [], length, take, slice_get, Option, Some, None}
 use Rattle.nfg_text.specs.Graphemes.{graphemes_of}
 use Rattle.nfg_text.specs.Operations.{first_place, last_place, text_order}
 use Rattle.nfg_syn.specs.Known.{Texts}
@@ -11,6 +11,7 @@ use Rattle.nfg_work.specs.declared.outcome.Outcome.TheVariants.{Nothing, Made, F
 use Rattle.nfg_work.specs.declared.output.FileRead.{FileRead}
 use Rattle.nfg_work.specs.Values.{Value, flat}
 use Rattle.nfg_work.specs.Evaluation.{are_equivalent}
+use Rattle.nfg_work.specs.Growth.{GrowsOnlyBy}
 use Rattle.nfg_work.specs.Holding.{IsStringOf}
 use Rattle.nfg_work.specs.Reach.{Reached, reached_from, value_of, if_short, load_value, cat_value, sub_value, rep_value, IsReachable}
 
@@ -64,5 +65,4 @@ pub record AreRight (known : Texts) (script : List NumberedCommand) (reads : Lis
 
 -- what is known besides are clusters that the script can bring into a table
 abbrev pub GrowsBy : List NumberedCommand → List FileRead → (old new : Texts) → Type 0
-GrowsBy script reads old new =
-    (k : ℕ) (t : List ℕ) → new k ≡ Some t → (old k ≡ Some t) ⊎ IsReachable script reads t
+GrowsBy script reads old new = GrowsOnlyBy (IsReachable script reads) old new

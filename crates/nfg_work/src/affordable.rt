@@ -1,9 +1,11 @@
-//! The jobs of a level that the cost of all strings has room for.
+//! The jobs of a level that are done ahead: the cost of all strings has room for them.
 ghost use Rattle.std.specs.Prelude.{◌<◌, length, All, IfOk};
 ghost use Rattle.nfg_work.specs.Planned.{IsPlan};
 
 use crate::defining::is_over;
 use crate::job::string_before;
+use crate::large::large_file;
+use crate::progress::Progress;
 use crate::work::Work;
 use crate::{FileRead, Gate};
 use nfg_script::Command;
@@ -48,13 +50,29 @@ fn cost_of(work: Work<'_>, k: usize) -> u64
     }
 }
 
+/// Whether the job at `k` is none of its level: it stands behind a refused command, or it is a load of a large file and those
+/// were done before, in parts.
+fn is_left_out(work: Work<'_>, k: usize, in_parts: bool, end: usize) -> bool
+    requires place { k < length work.script.now }
+    requires plan { IsPlan work.script.now work.plan.now }
+{
+    if k >= end {
+        return true;
+    }
+    if !in_parts {
+        return false;
+    }
+    large_file(work.script, work.plan, work.reads, k).is_some()
+}
+
 /// The jobs whose strings, with those that were made before, don't cost too much. The others are put off: the gate is
-/// told of them, and nothing is done.
+/// told of them, and nothing is done. It is told nothing of those that are left out.
 pub(crate) fn affordable<G: Gate>(
     alloc: Global,
     work: Work<'_>,
     jobs: &[u32],
-    spent: &mut u64,
+    in_parts: bool,
+    progress: &mut Progress,
     gate: &G,
 ) -> Result<Vec<u32>, AllocError>
     requires plan { IsPlan work.script.now work.plan.now }
@@ -63,12 +81,16 @@ pub(crate) fn affordable<G: Gate>(
 {
     let mut kept = Vec::with_capacity(alloc, jobs.len())?;
     'affording: for job in jobs {
-        let cost = cost_of(work, *job as usize);
-        if is_over(*spent, cost) {
+        let k = *job as usize;
+        if is_left_out(work, k, in_parts, progress.end) {
+            continue;
+        }
+        let cost = cost_of(work, k);
+        if is_over(progress.spent, cost) {
             gate.enter(*job);
             gate.leave(*job);
         } else {
-            *spent = spent.saturating_add(cost);
+            progress.spent = progress.spent.saturating_add(cost);
             kept.push(*job)?;
         }
     }

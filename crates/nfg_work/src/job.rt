@@ -42,7 +42,7 @@ pub(crate) fn string_before<'a>(work: Work<'a>, k: usize, name: u32) -> Option<&
 }
 
 /// What a job gives that makes a string.
-fn outcome_of(made: Result<NString, Stop>) -> Result<Outcome, AllocError>
+pub(crate) fn outcome_of(made: Result<NString, Stop>) -> Result<Outcome, AllocError>
     ensures { IsOutcomeFor made result }
 {
     match made {

@@ -20,7 +20,7 @@ use nfg_syn::Synthetics;
 use std::alloc::Global;
 
 /// Why no string is made.
-fn stop_of(error: LoadError) -> Stop
+pub(crate) fn stop_of(error: LoadError) -> Stop
     ensures { IsStopOf error result }
 {
     match error {
@@ -53,7 +53,7 @@ pub(crate) fn string_of_text<T: Synthetics>(
 }
 
 /// What the stream makes of a file's bytes.
-fn load_bytes<T: Synthetics>(
+pub(crate) fn load_bytes<T: Synthetics>(
     alloc: Global,
     table: &T,
     pass: &mut T::Pass,

@@ -16,6 +16,9 @@ use std::thread::Threads;
 
 /// What the script gives, from what was read for its loads, by so many workers over a table that they share. Commands
 /// that need no others of their level are done at once: the k-th of a level by worker k modulo the number of workers.
+/// With two workers or more, the loads of files of at least 2^20 bytes go before the levels: one after another in the order of the
+/// script, each in as many parts as there are workers, and they are not counted among the jobs of a level. What stands behind
+/// a command that is found to be refused is left out of the levels that follow.
 /// `gate` is told when a worker begins a command, and when it is done with it. What is printed is put together at the end, in
 /// the order of the lines.
 ///

@@ -3,9 +3,11 @@ ghost use Rattle.std.specs.Prelude.{◌≤◌, length};
 ghost use Rattle.nfg_work.specs.Evaluation.{AreWithinLimit};
 
 use crate::level_jobs::jobs_by_level;
-use crate::{Cause, FileRead, Gate, LevelList, OpenGate, Output, RefusedLine, levels, run_alone};
+use crate::{
+    Cause, FileRead, Gate, LevelList, OpenGate, Output, RefusedLine, SharedError, levels, run_alone,
+};
 use nfg_script::parse;
-use nfg_text::ByteList;
+use nfg_text::{ByteList, CodeList};
 use std::alloc::Global;
 use std::marker::{Send, Sync};
 use std::test::Fail;
@@ -115,6 +117,15 @@ fn reads_go_between_threads_and_an_open_gate_opens() {
     is_shared(&read);
     OpenGate.enter(0);
     OpenGate.leave(0);
+}
+
+#[test]
+fn a_refusal_of_a_shared_run_goes_between_threads(rt: HostRuntime) {
+    let full = SharedError::RowFull {
+        codes: CodeList::new(rt.alloc()),
+    };
+    is_sent(&full);
+    is_shared(&full);
 }
 
 #[test]

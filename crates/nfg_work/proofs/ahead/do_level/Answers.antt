@@ -5,8 +5,9 @@ use Rattle.nfg_syn.specs.Known.{IsSame}
 use Rattle.nfg_syn.specs.KnownLaws.{IsWithin-same, IsWithin-same_back, IsWithin-trans}
 use Rattle.nfg_syn.specs.SeenLaws.{Keeps-trans}
 use Rattle.nfg_work.specs.Workers.{IsDone, IsReady}
-use Rattle.nfg_work.proofs.GivenOutcomes.{AreRight-grows, GrowsBy-same, GrowsBy-trans}
+use Rattle.nfg_work.proofs.GivenOutcomes.{GrowsBy-same, GrowsBy-trans}
 use Rattle.nfg_work.proofs.MetWorkers.{HasMet-trans, IsDone-grows, IsReady-same, lent_back}
+use Rattle.nfg_work.proofs.RightOutcomes.{AreRight-grows}
 use Rattle.nfg_work.proofs.ahead.do_level.Goals as goal
 
 pub returns-clause-counted : goal.returns-clause-counted

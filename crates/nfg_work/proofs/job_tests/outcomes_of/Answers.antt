@@ -17,6 +17,6 @@ jobs-preserved c =
     let done = c.in_ok-outcome.ensures in (
       done.table,
       AreRight-set known c.args.script.now c.args.reads.now outcomes c.jobs.k c.in_ok-outcome.outcome
-          (AreRight-grows (known_of c.jobs.pass.texts) known c.args.script.now c.args.reads.now outcomes done.keeps.known c.jobs.invariant.1)
+          (AreRight-grows (known_of c.jobs.pass.texts) known done.keeps.known c.args.script.now c.args.reads.now outcomes c.jobs.invariant.1)
           done.right,
     )

@@ -1,5 +1,5 @@
 use Rattle.nfg_syn.specs.SeenLaws.{Keeps-refl, Keeps-trans, SameCounts-refl, SameCounts-trans}
-use Rattle.nfg_work.proofs.GivenOutcomes.{AreRight-grows}
+use Rattle.nfg_work.proofs.RightOutcomes.{AreRight-grows}
 use Rattle.nfg_work.proofs.MetWorkers.{HasGiven-start, HasGiven-trans}
 use Rattle.nfg_work.proofs.worker.do_share.Goals as goal
 
