@@ -9,6 +9,8 @@ ghost use Rattle.nfg_run.specs.declared.answer.Answer.{Answer};
 
 mod answer;
 #[cfg(test)]
+mod cell_tests;
+#[cfg(test)]
 mod command_line_tests;
 mod evaluated;
 #[cfg(test)]
@@ -17,7 +19,15 @@ mod generated_input;
 mod generator;
 #[cfg(test)]
 mod generator_tests;
+#[cfg(test)]
+mod large_file_tests;
 mod number;
+#[cfg(test)]
+mod part_loads;
+#[cfg(test)]
+mod part_tests;
+#[cfg(test)]
+mod part_text_tests;
 mod reading;
 mod said;
 mod status;

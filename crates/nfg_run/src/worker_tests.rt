@@ -31,14 +31,14 @@ impl Job {
 
 /// A gate at which jobs 0 and 1 wait for one another, so that one worker alone runs out of turns.
 #[derive(Drop)]
-struct MeetingGate {
+pub(crate) struct MeetingGate {
     first: Job,
     second: Job,
     missed: AtomicBool,
 }
 
 impl MeetingGate {
-    fn new() -> MeetingGate {
+    pub(crate) fn new() -> MeetingGate {
         MeetingGate {
             first: Job::new(),
             second: Job::new(),
@@ -58,7 +58,7 @@ impl MeetingGate {
     }
 
     /// Whether both jobs were entered and left, and none waited in vain.
-    fn passes(&self) -> bool {
+    pub(crate) fn passes(&self) -> bool {
         let entered = self.first.entered.load(Ordering::SeqCst)
             & self.second.entered.load(Ordering::SeqCst);
         let left = self.first.left.load(Ordering::SeqCst) & self.second.left.load(Ordering::SeqCst);
@@ -186,6 +186,16 @@ fn workers_change_nothing(rt: HostRuntime) -> Result<(), Fail> {
             "text a 61\nlen a\nload b utf8 none\ncat c a b\n",
             Status::ReadFault,
             "1\nline 3: cannot read\n",
+        ),
+        (
+            "text a 301\nrep b a 1024\nlen b\nrep c a 1025\nlen a\n",
+            Status::Refused,
+            "1\nline 4: cluster too long at grapheme 0\n",
+        ),
+        (
+            "text a 71\ntext b 301\nrep c b 1024\nlen c\ncat d a c\n",
+            Status::Refused,
+            "1\nline 5: cluster too long at grapheme 0\n",
         ),
         ("", Status::Done, ""),
     ] {
