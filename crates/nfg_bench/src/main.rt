@@ -9,6 +9,8 @@ mod lanes;
 mod pipeline;
 mod plain;
 mod print;
+mod samples;
+mod scripts;
 mod seam;
 mod search;
 mod segment;
@@ -16,8 +18,11 @@ mod strand;
 mod stream;
 mod tables;
 mod texts;
+mod threads;
 mod timing;
 mod workbench;
+mod workers;
+mod workload;
 
 // The first word after the program's name says what to time; with none, nothing is.
 fn main(rt: HostRuntime) -> io::Result<()> {
@@ -33,12 +38,16 @@ fn main(rt: HostRuntime) -> io::Result<()> {
             "seam" => seam::report(&rt, rt.alloc()),
             "search" => search::report(&rt, rt.alloc()),
             "print" => print::report(&rt, rt.alloc()),
-            "tables" => tables::report(&rt, rt.alloc()),
+            "tables" => {
+                tables::report(&rt, rt.alloc())?;
+                threads::report(&rt, rt.alloc())
+            }
             "segment" => segment::report(&rt, rt.alloc()),
+            "workers" => workers::report(&rt, rt.alloc()),
             _ => println!(rt; "No such subject: {word}"),
         },
         None => println!(rt;
-            "Name what to time: lanes, blocks, decode, strand, stream, segment, seam, search, print, tables"
+            "Name what to time: lanes, blocks, decode, strand, stream, segment, seam, search, print, tables, workers"
         ),
     }
 }

@@ -1,9 +1,7 @@
 //! What printing a string costs beside loading it, by scripts that nfg_work evaluates.
-ghost use Rattle.std.specs.Prelude.{true, IsTrue};
-ghost use Rattle.nfg_work.specs.Evaluation.{AreWithinLimit, IsWithinLimit};
-
 use crate::texts::{self, LONG};
 use crate::timing::{Comparison, compare_rest};
+use crate::workload::are_within;
 use nfg_script::{Script, parse};
 use nfg_text::ByteList;
 use nfg_work::{FileRead, run_alone};
@@ -13,29 +11,6 @@ use std::rt::Clock;
 
 /// The places of a table.
 const PLACES: u32 = 1 << 18;
-
-/// The most bytes of a file.
-const FILE_LIMIT: usize = 1 << 26;
-
-/// Whether there is one file, which is not too long for a script.
-fn are_within(reads: &[FileRead]) -> bool
-    ensures { IsTrue result → AreWithinLimit reads.now }
-{
-    match reads {
-        [read] => is_within(read),
-        _ => false,
-    }
-}
-
-/// Whether a file is not too long for a script.
-fn is_within(read: &FileRead) -> bool
-    ensures { IsTrue result → IsWithinLimit read.now }
-{
-    match read {
-        FileRead::Bytes(bytes) => bytes.len() <= FILE_LIMIT,
-        _ => true,
-    }
-}
 
 /// How many bytes a script prints.
 fn printed(alloc: Global, script: &Script, reads: &[FileRead]) -> usize {

@@ -1,14 +1,13 @@
 //! Clusters numbered by tables of synthetics: by the two that callers share, beside one of a single caller.
-ghost use Rattle.std.specs.Prelude.{◌≡◌, ◌<◌, ◌≤◌, IfOk, true};
-ghost use Rattle.nfg_syn.specs.Known.{IsInternable};
+ghost use Rattle.std.specs.Prelude.{◌≡◌, ◌<◌, ◌≤◌, length, IfOk, true};
 ghost use Rattle.nfg_syn.specs.OwnTexts.{IsOwnPass};
 ghost use Rattle.nfg_cells.specs.Cells.{IsCellPass, seen_of};
 ghost use Rattle.nfg_words.specs.Table.{IsWordPass, seen_of as seen_of_words};
 
+use crate::samples::{Sample, samples};
 use crate::timing::{medians, nanoseconds, print_row};
 use nfg_cells::{CellPass, CellTable};
 use nfg_syn::{OwnPass, OwnTable, Shared, Synthetics};
-use nfg_text::is_text;
 use nfg_words::{WordPass, WordTable};
 use std::alloc::{AllocError, Global};
 use std::io;
@@ -16,60 +15,13 @@ use std::rt::Clock;
 use std::time::Instant;
 
 /// The places of a table.
-const PLACES: u32 = 1 << 18;
+pub const PLACES: u32 = 1 << 18;
 
 /// How many clusters are numbered.
 const CLUSTERS: usize = 200_000;
 
-/// How many are drawn, of which a few come again.
-const DRAWS: usize = 210_000;
-
 /// How often each way is timed.
 const RUNS: usize = 9;
-
-/// A cluster that a table may number.
-#[derive(Drop)]
-struct Sample {
-    codes: Vec<u32>,
-    ghost is: { IsInternable codes.items },
-}
-
-/// The number that is drawn after another.
-fn next(number: u32) -> u32 {
-    number.wrapping_mul(1_103_515_245).wrapping_add(12_345) & 0x7FFF_FFFF
-}
-
-/// One of so many code points from the first on, by a number that was drawn.
-fn pick(number: u32, first: u32, many: u32) -> u32 {
-    first.saturating_add((number >> 10) % many.max(1))
-}
-
-/// An ideograph and 1 to 4 marks, by numbers that are drawn.
-fn drawn_codes(alloc: Global, number: &mut u32) -> Result<Vec<u32>, AllocError> {
-    let mut codes = Vec::new(alloc);
-    *number = next(*number);
-    codes.push(pick(*number, 0x4E00, 0x51FF))?;
-    *number = next(*number);
-    for _k in 0..pick(*number, 1, 4) {
-        *number = next(*number);
-        codes.push(pick(*number, 0x300, 0x70))?;
-    }
-    Ok(codes)
-}
-
-/// The codes as a cluster, where a table may number them.
-fn sample_of(codes: Vec<u32>) -> Option<Sample> {
-    if codes.len() < 2 {
-        return None;
-    }
-    if codes.len() > 1024 {
-        return None;
-    }
-    if !is_text(codes.as_slice()) {
-        return None;
-    }
-    Some(Sample { codes })
-}
 
 fn own_table(alloc: Global) -> Result<(OwnTable, OwnPass), AllocError>
     ensures { IfOk result (λ made. IsOwnPass made.0 made.1) }
@@ -77,83 +29,26 @@ fn own_table(alloc: Global) -> Result<(OwnTable, OwnPass), AllocError>
     OwnTable::new(alloc, PLACES)
 }
 
-fn cell_table(alloc: Global) -> Result<(CellTable, CellPass), AllocError>
+/// A new table of cells, and its pass.
+pub fn cell_table(alloc: Global) -> Result<(CellTable, CellPass), AllocError>
+    ensures size { IfOk result (λ made. length made.0 ≡ 262144) }
     ensures pass { IfOk result (λ made. IsCellPass made.0 made.1) }
     ensures root { IfOk result (λ made. (seen_of made.1).root ≡ true) }
 {
     CellTable::new(alloc, PLACES)
 }
 
-fn word_table(alloc: Global) -> Result<(WordTable, WordPass), AllocError>
+/// A new table of words, and its pass.
+pub fn word_table(alloc: Global) -> Result<(WordTable, WordPass), AllocError>
+    ensures size { IfOk result (λ made. made.0.n ≡ 262144) }
     ensures pass { IfOk result (λ made. IsWordPass made.0 made.1) }
     ensures root { IfOk result (λ made. (seen_of_words made.1).root ≡ true) }
 {
     WordTable::new(alloc, PLACES)
 }
 
-/// Whether this is the number of the next new text, behind so many.
-fn is_next(n: i32, count: usize) -> bool
-    requires { count ≤ 1048576 }
-{
-    -2 - n as i64 == count as i64
-}
-
-/// Keeps a cluster that the table did not know, up to so many.
-fn keep_new(
-    alloc: Global,
-    table: &OwnTable,
-    pass: &mut OwnPass,
-    samples: &mut Vec<Sample>,
-    sample: Sample,
-) -> Result<(), AllocError>
-    requires pass { IsOwnPass table.now pass.old }
-    ensures pass { IsOwnPass table.now pass.new }
-{
-    let count = samples.len();
-    if count >= CLUSTERS {
-        return Ok(());
-    }
-    match table.intern(alloc, pass, sample.codes.as_slice()) {
-        Ok(n) => {
-            if is_next(n, count) {
-                samples.push(sample)?;
-            }
-            Ok(())
-        }
-        Err(_) => Ok(()),
-    }
-}
-
-/// Draws a cluster, and keeps it if it is new.
-fn draw(
-    alloc: Global,
-    table: &OwnTable,
-    pass: &mut OwnPass,
-    samples: &mut Vec<Sample>,
-    number: &mut u32,
-) -> Result<(), AllocError>
-    requires pass { IsOwnPass table.now pass.old }
-    ensures pass { IsOwnPass table.now pass.new }
-{
-    match sample_of(drawn_codes(alloc, number)?) {
-        Some(sample) => keep_new(alloc, table, pass, samples, sample),
-        None => Ok(()),
-    }
-}
-
-/// Clusters of which no two are the same, always the same ones.
-fn samples(alloc: Global) -> Result<Vec<Sample>, AllocError> {
-    let (table, mut pass) = own_table(alloc)?;
-    let mut samples = Vec::new(alloc);
-    let mut number: u32 = 1;
-    for _k in 0..DRAWS {
-        draw(alloc, &table, &mut pass, &mut samples, &mut number)?;
-    }
-    Ok(samples)
-}
-
 /// Numbers the clusters, and answers how many got a number.
-fn number_all<S: Synthetics>(
+pub fn number_all<S: Synthetics>(
     alloc: Global,
     table: &S,
     pass: &mut S::Pass,
@@ -353,7 +248,7 @@ fn report_word_pass(
 }
 
 pub fn report(rt: &(impl Print + Clock), alloc: Global) -> io::Result<()> {
-    let samples = samples(alloc)?;
+    let samples = samples(alloc, CLUSTERS)?;
     report_clusters(rt, alloc, samples.as_slice())?;
     report_cell_pass(rt, alloc, samples.as_slice())?;
     report_word_pass(rt, alloc, samples.as_slice())

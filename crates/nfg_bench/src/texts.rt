@@ -91,6 +91,27 @@ pub fn repeated(alloc: Global, sample: &[u8], size: usize) -> Result<Vec<u8>, Al
     Ok(bytes)
 }
 
+/// All texts one after another, again and again, as many whole ones as the size has room for.
+pub fn mixed(alloc: Global, size: usize) -> Result<Vec<u8>, AllocError>
+    ensures { IfOk result (λ bytes. length bytes.items ≤ size) }
+{
+    let samples = [
+        ASCII,
+        FRENCH,
+        FRENCH_DECOMPOSED,
+        HANGUL,
+        JAMO,
+        CHINESE,
+        DEVANAGARI,
+        EMOJI,
+    ];
+    let mut sample = Vec::new(alloc);
+    for text in samples {
+        sample.extend_from_slice(text.as_bytes())?;
+    }
+    repeated(alloc, sample.as_slice(), size)
+}
+
 /// Which byte of a unit comes first.
 #[derive(Clone, Copy)]
 pub enum ByteOrder {

@@ -23,6 +23,13 @@ pub struct Timings {
     answered: usize,
 }
 
+/// How long one run took, and what it answered.
+#[derive(Clone, Copy)]
+pub struct Round {
+    pub nanoseconds: u64,
+    pub answered: usize,
+}
+
 /// More than any timing, and small enough for what is computed from it.
 const LONGEST: u64 = 1 << 40;
 
