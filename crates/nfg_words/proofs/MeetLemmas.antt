@@ -160,7 +160,7 @@ module _ (id : TableId) (n : ℕ) (into from new : WordPass) (is_into : IsPassOf
 -- a pass to which another was joined is of their table
 pub pass_joined : (id : TableId) (n : ℕ) (into from : WordPass) (holder : Seat ℕ View) (tried : ℕ) → IsPassOf id n into → IsPassOf id n from → IsSeatOf id n holder
     → holder.me.0 ≡ joined (view_of into) (view_of from) → (tried ≡ into.tried) ⊎ (tried ≡ from.tried)
-    → IsPassOf id n (record { holder = holder; unspent = into.unspent; end = into.end; tried = tried })
+    → IsPassOf id n (record into { holder = holder; tried = tried })
 pass_joined id n into from holder tried is_into is_from seat is which = record {
   held = record {
     seat = seat;

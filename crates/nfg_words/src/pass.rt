@@ -10,4 +10,7 @@ pub struct WordPass {
     pub(crate) end: usize,
     // The chunks before this one were found taken.
     pub(crate) tried: usize,
+    // Unused bytes, so that the fields that a call writes stand on no cache line (of 64 bytes) with those of a pass beside it,
+    // which another thread may use.
+    pub(crate) apart: [u64; 8],
 }

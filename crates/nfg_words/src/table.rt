@@ -38,6 +38,7 @@ impl WordTable {
             unspent: 0,
             end: 0,
             tried: 0,
+            apart: [0; 8],
         };
         Ok((table, pass))
     }
@@ -189,6 +190,7 @@ impl Shared for WordTable {
             unspent: 0,
             end: 0,
             tried: pass.tried,
+            apart: [0; 8],
         })
     }
 
@@ -217,6 +219,7 @@ impl Shared for WordTable {
             unspent: _,
             end: _,
             tried,
+            apart: _,
         } = from;
         join_views(&self.words, &mut into.holder, holder, self.n as usize);
         into.tried = later(into.tried, tried);
