@@ -44,6 +44,8 @@ pub fn codes<T: Synthetics>(
         → IfOk result (λ codes. codes ≡ text_of clusters) }
 {
     let mut text = CodeList::new(alloc);
+    // each grapheme stands for one code point or more
+    text.reserve(a.len() as usize)?;
     match append_codes(table, pass, a, 0, a.len(), &mut text) {
         Ok(()) => Ok(text),
         Err(error) => Err(error),

@@ -8,7 +8,7 @@ use Rattle.nfg_ops.proofs.spelled.codes.Goals as goal
 pub returns-in-Ok-clause-text : goal.returns-in-Ok-clause-text
 returns-in-Ok-clause-text g c = λ clusters represents.
     let long = Represents-length _ c.args.a.now.graphemes clusters represents in
-    let len = c.len.ensures.len in
+    let len = c.len-2.ensures.len in
     c.in-Ok.ensures.added clusters represents
-    ∙ ap (λ t. t ++ text_of (slice_range clusters 0 c.len.result)) c.new-text.ensures
-    ∙ ap text_of (take_all (c.len.result - 0) clusters (omega (arith, long, len)))
+    ∙ ap (λ t. t ++ text_of (slice_range clusters 0 c.len-2.result)) (c.reserve.ensures ∙ c.new-text.ensures)
+    ∙ ap text_of (take_all (c.len-2.result - 0) clusters (omega (arith, long, len)))
