@@ -93,7 +93,7 @@ abbrev HasReason : List FileRead → Output → Type 0
 HasReason reads output = IfSome output.refused (λ refused. refused.cause ≡ CannotRead → has_failed reads ≡ true)
 
 -- what a script gives from a line on
-abbrev output_of : (places : ℕ) → (line : ℕ) → List NumberedCommand → (output : List ℕ) → Result State Cause → Output
+abbrev pub output_of : (places : ℕ) → (line : ℕ) → List NumberedCommand → (output : List ℕ) → Result State Cause → Output
 output_of places line script output result = elim result [
   | Ok next ↦ evaluate_from places next script
   | Err cause ↦ record {

@@ -18,6 +18,7 @@ pub mod InNfg
 pub mod Answered
 pub mod JoinedValues
 pub mod FailedReads
+pub mod MorePlaces
 pub mod Leveled
 pub mod Reached
 pub mod Taken

@@ -1,12 +1,13 @@
 -- The laws of the evaluation: at every point of a script, each value is a list of graphemes (this project's own).
-use Rattle.std.specs.Prelude.{◌≡◌, ℕ, Bool, true, false, List, [], ◌∷◌, ◌++◌, IfSome, Result, Ok, Err, IfOk}
+use Rattle.std.specs.Prelude.{◌≡◌, ◌≢◌, ◌≤◌, ℕ, Bool, true, false, List, [], ◌∷◌, ◌++◌, IfSome, Result, Ok, Err, IfOk}
 use Rattle.nfg_text.specs.Graphemes.{IsInNfg}
 use Rattle.nfg_text.specs.Operations.{part_of}
 use Rattle.nfg_script.specs.Script.{NumberedCommand, load_paths}
 use Rattle.nfg_work.specs.declared.output.Cause.{Cause}
-use Rattle.nfg_work.specs.declared.output.Cause.TheVariants.{CannotRead}
+use Rattle.nfg_work.specs.declared.output.Cause.TheVariants.{CannotRead, TableFull}
 use Rattle.nfg_work.specs.declared.output.FileRead.{FileRead}
 use Rattle.nfg_work.specs.declared.output.FileRead.TheVariants.{Bytes, TooLong, Failed}
+use Rattle.nfg_work.specs.declared.output.Output.{Output}
 use Rattle.nfg_work.specs.Evaluation.{State, value_of, step, first_state, evaluate_from, evaluate}
 
 -- the state after some lines, or the cause for which the first of them that is refused is
@@ -59,3 +60,13 @@ FailedReadIsCause =
     (places : ℕ) (reads : List FileRead) (script : List NumberedCommand) → HasEntries (load_paths script) reads
     → IfSome (evaluate script reads places).refused
     (λ refused. refused.cause ≡ CannotRead → has_failed reads ≡ true)
+
+-- no line was refused for a full table
+abbrev pub HasRoom : Output → Type 0
+HasRoom output = IfSome output.refused (λ refused. refused.cause ≢ TableFull)
+
+-- what a script gives over a table that has room for it, it gives over every larger one
+abbrev pub MorePlacesChangeNothing : Type 0
+MorePlacesChangeNothing =
+    (places more : ℕ) (reads : List FileRead) (script : List NumberedCommand) → places ≤ more
+    → HasRoom (evaluate script reads places) → evaluate script reads more ≡ evaluate script reads places

@@ -1,5 +1,5 @@
 //! The laws of the evaluation. Each function does nothing: its clauses are what holds.
-ghost use Rattle.nfg_work.specs.Laws.{EvaluationGoesOn, FailedReadIsCause, PartIsInNfg, ValuesAreInNfg};
+ghost use Rattle.nfg_work.specs.Laws.{EvaluationGoesOn, FailedReadIsCause, MorePlacesChangeNothing, PartIsInNfg, ValuesAreInNfg};
 ghost use Rattle.nfg_work.specs.Reach.{ValuesAreReached};
 
 /// The value of every name, at every point of a script, is a list of graphemes.
@@ -22,4 +22,9 @@ pub fn failed_read_is_cause()
 /// The values of a script that is not refused are those that its names reach, whatever the costs and the places.
 pub fn values_are_reached()
     ensures { ValuesAreReached }
+{}
+
+/// What a script gives over a table that has room for its clusters, it gives over every larger one.
+pub fn more_places_change_nothing()
+    ensures { MorePlacesChangeNothing }
 {}
