@@ -3,13 +3,16 @@ use Rattle.std.proofs.Common.{◌≡◌, ℕ, List, [], ◌∷◌, take, length,
 use Rattle.std.proofs.lemmas.Slice.Zip.{AllZip-long}
 use Rattle.std.specs.Prelude.{IsOkAnd}
 use Rattle.nfg_text.specs.Graphemes.{graphemes_of, ends_from}
+use Rattle.nfg_decode.specs.declared.encoding.Encoding.{Encoding}
 use Rattle.nfg_decode.specs.Decoded.{Decoded}
+use Rattle.nfg_decode.specs.Encoding.{decode}
 use Rattle.nfg_segment.specs.Given.{Given, with_cluster, with_clusters}
 use Rattle.nfg_syn.specs.Represents.{spelling}
 use Rattle.nfg_syn.specs.Seen.{Seen}
 use Rattle.nfg_strand.specs.Value.{Rope}
 use Rattle.nfg_stream.specs.Load.{HasLoaded}
 use Rattle.nfg_stream.specs.declared.error.LoadError.{LoadError}
+use Rattle.nfg_work.specs.Parts.{HasLoadedParts}
 
 -- each part has one end
 pub length-ends_from : (from : ℕ) (parts : List (List ℕ)) → length (ends_from from parts) ≡ length parts
@@ -28,6 +31,12 @@ pub loaded_as_many : (decoded : Decoded) (old new : Seen) (made : Result Rope Lo
     → IfOk made (λ string. IsOkAnd decoded (λ text. length string.graphemes ≡ length (graphemes_of text)))
 loaded_as_many decoded old new (Ok string) loaded = loaded_count decoded old new string loaded
 loaded_as_many decoded old new (Err error) loaded = tt
+
+-- the same of what loading in parts answers
+pub parts_as_many : (e : Encoding) (bytes : List ℕ) (old new : Seen) (made : Result Rope LoadError) → HasLoadedParts e bytes old new made
+    → IfOk made (λ string. IsOkAnd (decode e bytes) (λ text. length string.graphemes ≡ length (graphemes_of text)))
+parts_as_many e bytes old new (Ok string) loaded = loaded_count (decode e bytes) _ new string loaded.2
+parts_as_many e bytes old new (Err error) loaded = tt
 
 -- clusters are added one by one
 pub length-with_clusters : (given : Given) (more : List (List ℕ)) → length (with_clusters given more).heads ≡ length given.heads + length more

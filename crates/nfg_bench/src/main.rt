@@ -6,6 +6,8 @@ use std::{env, io};
 mod blocks;
 mod decode;
 mod lanes;
+mod machine;
+mod parts;
 mod pipeline;
 mod plain;
 mod print;
@@ -44,10 +46,13 @@ fn main(rt: HostRuntime) -> io::Result<()> {
             }
             "segment" => segment::report(&rt, rt.alloc()),
             "workers" => workers::report(&rt, rt.alloc()),
+            "parts" => parts::report(&rt, rt.alloc()),
+            "machine" => machine::report(&rt, rt.alloc()),
             _ => println!(rt; "No such subject: {word}"),
         },
         None => println!(rt;
-            "Name what to time: lanes, blocks, decode, strand, stream, segment, seam, search, print, tables, workers"
+            "Name what to time: lanes, blocks, decode, strand, stream, segment, seam, search, print, tables, workers, \
+             parts, machine"
         ),
     }
 }

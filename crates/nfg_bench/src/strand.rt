@@ -31,7 +31,7 @@ const BUFFER: usize = 256;
 const TOO_LONG: u64 = 1 << 40;
 
 /// Adds a string at the end, if there is room for it.
-fn add(alloc: Global, whole: &mut NString, part: &NString) -> Result<(), AllocError> {
+pub fn add(alloc: Global, whole: &mut NString, part: &NString) -> Result<(), AllocError> {
     if whole.len() + part.len() >= TOO_LONG {
         return Ok(());
     }

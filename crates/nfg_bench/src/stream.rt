@@ -31,7 +31,7 @@ fn feed_all(alloc: Global, stream: &mut DecodeStream, bytes: &[u8]) -> Result<()
 }
 
 /// Loads a text over a table of its own.
-fn load(alloc: Global, bytes: &[u8]) -> Result<NString, LoadError>
+pub fn load(alloc: Global, bytes: &[u8]) -> Result<NString, LoadError>
     requires { length bytes.now ≤ 2 ^ 32 }
     ensures { IfOk result (λ string. IsOkAnd (decode Utf8 bytes.now)
         (λ text. length string.graphemes ≡ length (graphemes_of text))) }
