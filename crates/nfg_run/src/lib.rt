@@ -21,6 +21,8 @@ mod generator;
 mod generator_tests;
 #[cfg(test)]
 mod large_file_tests;
+#[cfg(test)]
+mod malformed_tests;
 mod number;
 #[cfg(test)]
 mod part_loads;
@@ -28,6 +30,10 @@ mod part_loads;
 mod part_tests;
 #[cfg(test)]
 mod part_text_tests;
+#[cfg(test)]
+mod pieces_fed;
+#[cfg(test)]
+mod plain_decoding;
 mod reading;
 mod said;
 mod status;
