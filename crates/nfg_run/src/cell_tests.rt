@@ -12,7 +12,7 @@ use std::test::Fail;
 use std::thread::Threads;
 
 /// What a script without loads gives by so many workers over a new table of 16 cells.
-fn over_cells<R: Threads + Sync>(
+pub(crate) fn over_cells<R: Threads + Sync>(
     rt: &R,
     alloc: Global,
     script: &Script,

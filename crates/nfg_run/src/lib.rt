@@ -11,10 +11,18 @@ mod answer;
 #[cfg(test)]
 mod cell_tests;
 #[cfg(test)]
+mod colliding_tests;
+#[cfg(test)]
 mod command_line_tests;
+#[cfg(test)]
+mod drawn_outside;
+#[cfg(test)]
+mod draws;
 mod evaluated;
 #[cfg(test)]
 mod example_tests;
+#[cfg(test)]
+mod failing_tests;
 mod generated_input;
 mod generator;
 #[cfg(test)]
@@ -38,8 +46,14 @@ mod reading;
 mod said;
 mod status;
 #[cfg(test)]
+mod table_texts;
+#[cfg(test)]
 mod tests;
+#[cfg(test)]
+mod truncated_tests;
 mod words;
+#[cfg(test)]
+mod worked_rows;
 #[cfg(test)]
 mod worker_tests;
 mod writing;

@@ -1,7 +1,8 @@
 //! Hard texts in five encodings, and with malformed bytes in them: where a file is cut into parts changes nothing.
-ghost use Rattle.std.specs.Prelude.{◌≡◌, ◌<◌, true};
+ghost use Rattle.std.specs.Prelude.{◌≡◌, true};
 ghost use Rattle.nfg_words.specs.Table.{IsWordPass, seen_of};
 
+use crate::draws::Draws;
 use crate::part_loads::{CutFile, check_parted};
 use nfg_decode::Encoding;
 use nfg_text::ByteList;
@@ -71,26 +72,6 @@ fn planted(alloc: Global, bytes: &[u8], at: usize, other: &[u8]) -> Result<ByteL
     list.append(other)?;
     list.append(back)?;
     Ok(list)
-}
-
-/// Numbers that seem to be drawn, the same ones each time.
-#[derive(Drop)]
-struct Draws {
-    state: u32,
-}
-
-impl Draws {
-    /// The next number, which is less than `count`.
-    fn next(&mut self, count: usize) -> usize
-        requires { 0 < count }
-        ensures { result < count }
-    {
-        self.state = self
-            .state
-            .wrapping_mul(1_664_525)
-            .wrapping_add(1_013_904_223);
-        (self.state >> 8) as usize % count
-    }
 }
 
 /// A file that is not cut.
@@ -194,7 +175,7 @@ fn where_a_text_is_cut_in_two_changes_nothing(rt: HostRuntime) -> Result<(), Fai
 
 #[test]
 fn where_a_text_is_cut_in_many_changes_nothing(rt: HostRuntime) -> Result<(), Fail> {
-    let mut draws = Draws { state: 1 };
+    let mut draws = Draws::new(1);
     for text in TEXTS {
         for encoding in ENCODINGS {
             let list = spelled(rt.alloc(), encoding, text)?;

@@ -1,6 +1,7 @@
 //! Rows over files in memory, and that a run succeeds where there is memory and nothing fails.
 ghost use Rattle.std.specs.Prelude.{◌≤◌};
 
+use crate::worked_rows::{BAD, CLUSTERS, ENCODED, FIRST, PUT, REFUSED, SILENT, WorkedRow};
 use crate::{Gate, OpenGate, Status, Words, run};
 use nfg_io::{MemoryFiles, MemorySink};
 use std::alloc::{AllocError, Global};
@@ -47,7 +48,7 @@ pub(crate) fn over<'a>(script: &'a [u8], f: &'a [u8]) -> Found<'a> {
 }
 
 /// The words of a command line, one space between two.
-fn words_of(alloc: Global, line: &str) -> Result<Words, AllocError> {
+pub(crate) fn words_of(alloc: Global, line: &str) -> Result<Words, AllocError> {
     let mut words = Words::new(alloc);
     for word in line.split(' ') {
         words.push(word)?;
@@ -105,137 +106,59 @@ fn check_run<R: Threads + Sync + Abort>(
     Ok(())
 }
 
+/// What a run of a worked row finds.
+fn found_of(row: &WorkedRow) -> Found<'static> {
+    Found {
+        line: "run s",
+        script: row.script,
+        f: row.f,
+        g: row.g,
+    }
+}
+
+/// The runs give what their rows say.
+fn check_rows<R: Threads + Sync + Abort>(
+    rt: &R,
+    alloc: Global,
+    rows: &[WorkedRow],
+) -> Result<(), Fail> {
+    for row in rows {
+        check_run(rt, alloc, found_of(row), row.status, row.wanted)?;
+    }
+    Ok(())
+}
+
 #[test]
 fn succeeds_with_memory(rt: HostRuntime) -> Result<(), Fail> {
-    let found = over(SCRIPT, b"e\xcc\x81\r\nq");
-    let (status, taken) = outcome(&rt, rt.alloc(), found, SOUND)?;
+    let (status, taken) = outcome(&rt, rt.alloc(), found_of(&FIRST), SOUND)?;
     assert!(rt; status == Status::Done);
-    assert!(rt; taken.as_slice() == b"3\nE9 D+A 71\n".as_slice());
+    assert!(rt; taken.as_slice() == FIRST.wanted);
     Ok(())
 }
 
 #[test]
 fn a_file_has_the_clusters_that_a_reader_sees(rt: HostRuntime) -> Result<(), Fail> {
-    for (file, wanted) in [
-        ("e\u{301}\r\nq", "3\nE9 D+A 71\n"),
-        (
-            "Ze\u{301} \u{928}\u{92e}\u{938}\u{94d}\u{924}\u{947}\r\n",
-            "7\n5A E9 20 928 92E 938+94D+924+947 D+A\n",
-        ),
-        ("", "0\n\n"),
-        ("\u{1100}\u{1161}\u{11a8}", "1\nAC01\n"),
-        ("\u{1f1e6}\u{1f1e7}\u{1f1e8}", "2\n1F1E6+1F1E7 1F1E8\n"),
-        (
-            "q\u{307}\u{323} q\u{323}\u{307}",
-            "3\n71+323+307 20 71+323+307\n",
-        ),
-    ] {
-        let found = over(SCRIPT, file.as_bytes());
-        let (status, taken) = outcome(&rt, rt.alloc(), found, ONE_BYTE)?;
-        assert!(rt; status == Status::Done);
-        assert!(rt; taken.as_slice() == wanted.as_bytes());
-    }
-    Ok(())
+    check_rows(&rt, rt.alloc(), &CLUSTERS)
 }
 
 #[test]
 fn files_are_read_by_their_encodings(rt: HostRuntime) -> Result<(), Fail> {
-    for (script, f, g, wanted) in [
-        (
-            "load a utf16 f\nload b utf16 g\nshow a\nshow b\n",
-            b"\xff\xfe\x41\x00".as_slice(),
-            b"\x00\x41".as_slice(),
-            "41\n41\n",
-        ),
-        (
-            "load a utf16be f\nload b latin1 g\nshow b\nshow a\nlen b\n",
-            b"\xd8\x3d\xde\x00".as_slice(),
-            b"\xe9\x0d\x0a".as_slice(),
-            "E9 D+A\n1F600\n2\n",
-        ),
-        (
-            "load a utf8 f\nload b utf8 f\nload c utf8 g\nlen b\nlen c\n",
-            b"ab".as_slice(),
-            b"".as_slice(),
-            "2\n0\n",
-        ),
-        (
-            "load a utf8 f\nlen a\nshow a\nshape a\n",
-            b"".as_slice(),
-            b"".as_slice(),
-            "0\n\nstrands 0\n",
-        ),
-    ] {
-        let found = Found {
-            g,
-            ..over(script.as_bytes(), f)
-        };
-        let (status, taken) = outcome(&rt, rt.alloc(), found, ONE_BYTE)?;
-        assert!(rt; status == Status::Done);
-        assert!(rt; taken.as_slice() == wanted.as_bytes());
-    }
-    Ok(())
+    check_rows(&rt, rt.alloc(), &ENCODED)
 }
 
 #[test]
 fn the_refused_line_is_told(rt: HostRuntime) -> Result<(), Fail> {
-    for (script, f, g, wanted) in [
-        (
-            "load a utf8 f\n",
-            b"a\xe2\x82".as_slice(),
-            b"".as_slice(),
-            "line 1: malformed at byte 1\n",
-        ),
-        (
-            "load a utf8 f\n",
-            b"\xed\xa0\x80".as_slice(),
-            b"".as_slice(),
-            "line 1: malformed at byte 0\n",
-        ),
-        (
-            "load a utf16le f\nshow a\nload b utf16le g\n",
-            b"\x3d\xd8\x00\xde".as_slice(),
-            b"\x3d\xd8\x00".as_slice(),
-            "1F600\nline 3: malformed at byte 0\n",
-        ),
-        (
-            "load a latin1 f\nshow a\ntext b 100\nput b latin1\n",
-            b"\r\n\xe9".as_slice(),
-            b"".as_slice(),
-            "D+A E9\nline 4: not encodable at grapheme 0\n",
-        ),
-        (
-            "text a 61 62\nsub b a 2 5\nlen b\nsub c a 1 9223372036854775808\nshow c\nsub d a 3 0\n",
-            b"".as_slice(),
-            b"".as_slice(),
-            "0\n62\nline 6: out of range\n",
-        ),
-    ] {
-        let found = Found {
-            g,
-            ..over(script.as_bytes(), f)
-        };
-        check_run(&rt, rt.alloc(), found, Status::Refused, wanted.as_bytes())?;
-    }
-    Ok(())
+    check_rows(&rt, rt.alloc(), &REFUSED)
 }
 
 #[test]
 fn put_writes_the_bytes_and_nothing_else(rt: HostRuntime) -> Result<(), Fail> {
-    let script = b"text a E9 D A\nput a utf8\nput a utf16\nput a latin1\n";
-    let wanted = b"\xc3\xa9\r\n\xfe\xff\x00\xe9\x00\r\x00\n\xe9\r\n";
-    check_run(&rt, rt.alloc(), over(script, b""), Status::Done, wanted)
+    check_rows(&rt, rt.alloc(), &PUT)
 }
 
 #[test]
 fn an_empty_script_prints_nothing(rt: HostRuntime) -> Result<(), Fail> {
-    for script in ["", "\n", "# a comment\r\n\t \n", "text a"] {
-        let found = over(script.as_bytes(), b"");
-        let (status, taken) = outcome(&rt, rt.alloc(), found, SOUND)?;
-        assert!(rt; status == Status::Done);
-        assert!(rt; taken.is_empty());
-    }
-    Ok(())
+    check_rows(&rt, rt.alloc(), &SILENT)
 }
 
 /// So many of the byte.
@@ -247,24 +170,7 @@ fn repeated(alloc: Global, byte: u8, count: usize) -> Result<Vec<u8>, AllocError
 
 #[test]
 fn a_refused_script_tells_why(rt: HostRuntime) -> Result<(), Fail> {
-    let lines = repeated(rt.alloc(), b'\n', 10_001)?;
-    for (script, wanted) in [
-        (b"cat x a b\n".as_slice(), "script line 1: unknown name\n"),
-        (b"text a D800\n", "script line 1: bad code point\n"),
-        (b"frob\n", "script line 1: bad command\n"),
-        (b"text a 61\nrep b a -1\n", "script line 2: bad number\n"),
-        (b"text a 61\ntext a 62\n", "script line 2: name taken\n"),
-        (b"# one\n\nlen\n", "script line 3: wrong count of words\n"),
-        (b"text a-b", "script line 1: bad name\n"),
-        (b"load a utf9 f", "script line 1: bad encoding\n"),
-        (b"a\xff", "script: malformed at byte 1\n"),
-        (lines.as_slice(), "script: too long\n"),
-    ] {
-        let (status, taken) = outcome(&rt, rt.alloc(), over(script, b""), SOUND)?;
-        assert!(rt; status == Status::Bad);
-        assert!(rt; taken.as_slice() == wanted.as_bytes());
-    }
-    Ok(())
+    check_rows(&rt, rt.alloc(), &BAD)
 }
 
 #[test]
@@ -277,10 +183,12 @@ fn the_limits_of_a_script_are_exact(rt: HostRuntime) -> Result<(), Fail> {
         assert!(rt; taken.is_empty());
     }
     bytes.push(b'\n')?;
-    let found = over(bytes.as_slice(), b"");
-    let (status, taken) = outcome(&rt, rt.alloc(), found, SOUND)?;
-    assert!(rt; status == Status::Bad);
-    assert!(rt; taken.as_slice() == b"script: too long\n".as_slice());
+    let more_lines = repeated(rt.alloc(), b'\n', 10_001)?;
+    for script in [more_lines.as_slice(), bytes.as_slice()] {
+        let (status, taken) = outcome(&rt, rt.alloc(), over(script, b""), SOUND)?;
+        assert!(rt; status == Status::Bad);
+        assert!(rt; taken.as_slice() == b"script: too long\n".as_slice());
+    }
     Ok(())
 }
 
