@@ -107,24 +107,29 @@ pub fn probe_hash(codes: &[u32]) -> u32
     hash
 }
 
-// The place at an index of the probe sequence that begins at a hash.
-fn place_from(n: usize, hash: u32, index: usize) -> usize
-    requires index { index < n }
-    requires limit { n ≤ 1048576 }
-    ensures { result ≡ (hash + index) % n }
+/// The first place of the probe sequence of a text in a table of `n` places, or 0 where there are none.
+pub fn home_place(codes: &[u32], n: usize) -> usize
+    requires { n ≤ 1048576 }
+    ensures { 0 < n → result ≡ table.probe_hash codes.now % n }
 {
-    (hash as usize + index) % n
+    if n == 0 {
+        return 0;
+    }
+    // in 32 bits, where a division takes less time
+    (probe_hash(codes) % n as u32) as usize
 }
 
-/// The place at an index of the probe sequence of the text `codes`, whose hash is `hash`.
+/// The place at an index of the probe sequence of the text `codes`, of which `home` is the first place. Nothing is divided,
+/// since a search comes by here at each place.
 #[tactic(auto, unfolding(crate::specs::ProbeTable::probe_sequence))]
-pub fn probed_place(codes: &[u32], hash: u32, n: usize, index: usize) -> usize
-    requires hash { hash ≡ table.probe_hash codes.now }
+pub fn probed_place(codes: &[u32], home: usize, n: usize, index: usize) -> usize
+    requires home { home ≡ table.probe_hash codes.now % n }
     requires index { index < n }
     requires limit { n ≤ 1048576 }
     ensures place { result ≡ table.probe_sequence n codes.now index }
     ensures within { result < n }
 {
     let _ = codes;
-    place_from(n, hash, index)
+    let place = home + index;
+    if place < n { place } else { place - n }
 }

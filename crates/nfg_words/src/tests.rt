@@ -10,16 +10,17 @@ use std::sync::ledger::{Blank, Ledger};
 
 #[test]
 fn hashes_are_those_of_the_worked_rows(rt: HostRuntime) {
-    let hash = layout::probe_hash([0x71, 0x323, 0x307].as_slice());
+    let home = layout::home_place([0x71, 0x323, 0x307].as_slice(), 16);
     assert_eq!(rt; layout::probe_hash([0x71].as_slice()), 113);
     assert_eq!(rt; layout::probe_hash([0x71, 0x323].as_slice()), 4306);
-    assert_eq!(rt; hash, 134261);
+    assert_eq!(rt; layout::probe_hash([0x71, 0x323, 0x307].as_slice()), 134261);
+    assert_eq!(rt; home, 5);
     assert_eq!(rt;
-        layout::probed_place([0x71, 0x323, 0x307].as_slice(), hash, 16, 0),
+        layout::probed_place([0x71, 0x323, 0x307].as_slice(), home, 16, 0),
         5
     );
     assert_eq!(rt;
-        layout::probed_place([0x71, 0x323, 0x307].as_slice(), hash, 16, 11),
+        layout::probed_place([0x71, 0x323, 0x307].as_slice(), home, 16, 11),
         0
     );
 }

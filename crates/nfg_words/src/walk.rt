@@ -7,7 +7,7 @@ ghost use Rattle.nfg_words.specs.ProbeTable.{IsStorable};
 ghost use Rattle.nfg_words.specs.View.{places_of};
 ghost use Rattle.nfg_words.specs.Writing.{AreChunksSpent};
 
-use crate::layout::{probe_hash, probed_place};
+use crate::layout::{home_place, probed_place};
 use crate::pass::WordPass;
 use crate::probe_error::ProbeError;
 use crate::steps::Steps;
@@ -43,10 +43,10 @@ pub fn walk<L: Ledger>(
     ensures made { (view_of pass.new).steps ≤ (view_of pass.old).steps + (514 * n + chunk_count n + 512) }
     ensures counted { steps.new + (view_of pass.old).steps ≡ steps.old + (view_of pass.new).steps }
 {
-    let hash = probe_hash(codes);
+    let home = home_place(codes, n);
     let mut ready = false;
     for index in 0..n {
-        let place = probed_place(codes, hash, n, index);
+        let place = probed_place(codes, home, n, index);
         match visit(words, pass, n, place, codes, index, &mut ready, steps) {
             Ok(here) => {
                 if here {
