@@ -4,8 +4,9 @@ ghost use Rattle.std.specs.Ordering.{int_eq};
 ghost use Rattle.std.specs.List.{common_prefix_len, list_all, position_from, position_or_len, slice_range};
 ghost use Rattle.nfg_lanes.specs.Lanes.{is_narrow_grapheme};
 ghost use Rattle.nfg_block.specs.Block.{block_of};
+ghost use Rattle.nfg_block.specs.Runs.{DoFit, left_in};
 
-use crate::run::Run;
+use crate::run::{Run, RunCells};
 use nfg_lanes::{
     common_front_mixed, common_front8, common_front32, first_equal8, first_equal32, narrow,
     narrow_fits, widen,
@@ -158,6 +159,19 @@ impl Block {
         match &self.cells {
             Cells::Narrow(cells) => Run::narrow(&cells[from..until]),
             Cells::Wide(cells) => Run::wide(&cells[from..until]),
+        }
+    }
+
+    /// The cells from index `from` to before `until`, as they stand in the block.
+    pub fn cells(&self, from: usize, until: usize) -> RunCells<'_>
+        requires ordered { from ≤ until }
+        requires in_range { until ≤ length self.now.list }
+        ensures cells { left_in result ≡ slice_range self.now.list from until }
+        ensures fit { DoFit result }
+    {
+        match &self.cells {
+            Cells::Narrow(cells) => RunCells::Narrow(&cells[from..until]),
+            Cells::Wide(cells) => RunCells::Wide(&cells[from..until]),
         }
     }
 

@@ -7,4 +7,4 @@ mod run;
 mod tests;
 
 pub use block::Block;
-pub use run::Run;
+pub use run::{Run, RunCells};

@@ -11,10 +11,12 @@ pub struct Run<'a> {
     cells: RunCells<'a>,
 }
 
-/// The cells that are left, in either width.
+/// Cells of a block in a row, as they stand there.
 #[derive(Clone, Copy)]
-pub(crate) enum RunCells<'a> {
+pub enum RunCells<'a> {
+    /// Of 8 bits.
     Narrow(&'a [i8]),
+    /// Of 32 bits.
     Wide(&'a [i32]),
 }
 

@@ -1,7 +1,8 @@
 -- Lemmas on repeated lists.
-use Rattle.std.proofs.Common.{◌≡◌, ℕ, zero, suc, ◌+◌, ◌-◌, ◌*◌, ◌≤◌, List, [], ◌++◌, length, take, drop, refl, ap, sym, ◌∙◌, arith, length-append, append_assoc}
-use Rattle.std.specs.List.{repeat}
-use Rattle.std.proofs.lemmas.List.{append-nil, drop_all}
+use Rattle.std.proofs.Common.{◌≡◌, ℕ, zero, suc, ◌+◌, ◌-◌, ◌*◌, ◌≤◌, Bool, true, ◌&&◌, List, [], ◌++◌, length, take, drop, refl, ap, ap₂, sym, ◌∙◌, arith, length-append, length-drop, append_assoc}
+use Rattle.std.specs.List.{list_all, repeat}
+use Rattle.std.proofs.lemmas.List.{append-nil, drop_all, take_all, take-append-drop}
+use Rattle.std.proofs.lemmas.List.Folds.{list_all-append}
 use Rattle.std.proofs.Math.Seq.{drop-append-add, take-append-add}
 
 module _ {A : Type 0} where
@@ -56,3 +57,20 @@ module _ {A : Type 0} where
   pub repeat-nil : (n : ℕ) → repeat {A = A} n [] ≡ []
   repeat-nil zero = refl
   repeat-nil (suc n) = repeat-nil n
+
+  -- a list at the end of a repetition of it
+  pub pushed_again : (list : List A) (n : ℕ) (xs : List A) → (list ++ repeat n xs) ++ xs ≡ list ++ repeat (n + 1) xs
+  pushed_again list n xs =
+      append_assoc list (repeat n xs) xs
+      ∙ ap (λ ys. list ++ ys) (ap (λ ys. repeat n xs ++ ys) (sym (repeat-one xs)) ∙ sym (repeat-add n 1 xs))
+
+  -- what holds of each element holds of each in a repetition
+  pub all-repeat : (p : A → Bool) (n : ℕ) (xs : List A) → list_all p xs ≡ true → list_all p (repeat n xs) ≡ true
+  all-repeat p zero xs all = refl
+  all-repeat p (suc n) xs all = list_all-append p xs (repeat n xs) ∙ ap₂ (λ a b. a && b) all (all-repeat p n xs all)
+
+  -- a front and the rest behind it
+  pub front-rest : (n : ℕ) (xs : List A) → n ≤ length xs → take n xs ++ take (length xs - n) (drop n xs) ≡ xs
+  front-rest n xs within =
+      let behind = length-drop n xs in
+      ap (λ ys. take n xs ++ ys) (take_all (length xs - n) (drop n xs) (omega (arith, behind))) ∙ take-append-drop n xs

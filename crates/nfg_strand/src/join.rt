@@ -5,7 +5,7 @@ ghost use Rattle.std.specs.List.{repeat};
 ghost use Rattle.nfg_strand.specs.Pieces.{piece_or_none, flat_piece, joined, repeat_pieces, at_most_64};
 ghost use Rattle.nfg_strand.specs.Strand.{graphemes_of, piece_of, graphemes, pieces, flat_strand};
 
-use crate::search::copy;
+use crate::flat::flat_block;
 use crate::strand::Strand;
 use nfg_block::Block;
 use std::alloc::{AllocError, Global};
@@ -31,9 +31,7 @@ fn flattened_one(alloc: Global, strands: &[Strand], len: u64) -> Result<Strand, 
     requires bounded { len ≤ 2 ^ 40 }
     ensures { IfOk result (λ s. s ≡ flat_strand (graphemes strands.now)) }
 {
-    let mut all = vec![in alloc; 0; len as usize]?;
-    copy(strands, 0, all.as_mut_slice());
-    whole(alloc, Block::from_vec(alloc, all)?)
+    whole(alloc, flat_block(alloc, strands, len)?)
 }
 
 /// The whole block as one strand, or none where it is empty.

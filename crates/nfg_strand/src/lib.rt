@@ -2,6 +2,7 @@
 #![tactic(auto)]
 
 mod cut;
+mod flat;
 mod graphemes;
 mod join;
 mod piece;

@@ -4,10 +4,11 @@ ghost use Rattle.std.specs.Prelude.{◌≡◌, ◌≤◌, ◌<◌, ◌+◌, ◌*
 ghost use Rattle.std.specs.List.{position_from, common_prefix_len};
 ghost use Rattle.std.specs.Ordering.{int_eq};
 ghost use Rattle.std.specs.Arc.{arc_value};
+ghost use Rattle.nfg_block.specs.Runs.{DoFit, left_in};
 ghost use Rattle.nfg_strand.specs.Strand.{graphemes_of, piece_of};
 
 use crate::piece::Piece;
-use nfg_block::{Block, Run};
+use nfg_block::{Block, Run, RunCells};
 use std::alloc::AllocError;
 use std::marker::Model;
 use std::sync::Arc;
@@ -154,6 +155,14 @@ impl Strand {
         ensures { result ≡ drop at self.now.unit }
     {
         self.block.run(self.start + at, self.end)
+    }
+
+    /// The unit, as it stands in the block.
+    pub(crate) fn cells(&self) -> RunCells<'_>
+        ensures cells { left_in result ≡ self.now.unit }
+        ensures fit { DoFit result }
+    {
+        self.block.cells(self.start, self.end)
     }
 
     /// The place of the first `x` among `count` graphemes of the unit, counted from place `at`.

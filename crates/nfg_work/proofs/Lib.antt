@@ -45,4 +45,3 @@ pub mod Bodies
 pub mod CutPlaces
 pub mod WholeFile
 pub mod JoinedFile
-pub mod FlatLists

@@ -13,7 +13,6 @@ mod comparing;
 mod defining;
 mod evaluation;
 mod file_parts;
-mod flattening;
 mod gate;
 mod given;
 mod given_answers;

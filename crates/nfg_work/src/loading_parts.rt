@@ -9,7 +9,6 @@ use crate::Gate;
 use crate::body::body_of;
 use crate::bounds::bounds_of;
 use crate::file_parts::FileParts;
-use crate::flattening::flat;
 use crate::loaders::{load_all, new_loaders};
 use crate::making::load_bytes;
 use crate::part_joining::join_all;
@@ -86,7 +85,7 @@ pub fn load_parts<R: Threads + Sync, T: Shared, G: Gate>(
         bounds: bounds.as_slice(),
     };
     match load_joined(rt, alloc, table, pass, parts, gate) {
-        Ok(Some(string)) => Ok(flat(alloc, &string)?),
+        Ok(Some(string)) => Ok(string.flatten(alloc)?),
         Ok(None) => load_bytes(alloc, table, pass, e, bytes),
         Err(_) => Err(LoadError::OutOfMemory),
     }
