@@ -33,6 +33,8 @@ mod large_file_tests;
 mod malformed_tests;
 mod number;
 #[cfg(test)]
+mod one_hash_tests;
+#[cfg(test)]
 mod part_loads;
 #[cfg(test)]
 mod part_tests;
