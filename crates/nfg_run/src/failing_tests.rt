@@ -214,6 +214,36 @@ fn check_writes<R: Threads + Sync + Abort>(
     Ok(())
 }
 
+#[test]
+fn each_failed_call_on_a_file_too_long_is_told(rt: HostRuntime) -> Result<(), Fail> {
+    let mut file = Vec::new(rt.alloc());
+    file.resize((1 << 26) + 1, b'a')?;
+    let found = over(b"load a utf8 f\n", file.as_slice());
+    // 1,024 reads give all but the last byte, which call 1,028 reads; behind it none is made
+    for (failing_call, status, wanted) in [
+        (0, Status::ReadFault, b"script: cannot read\n".as_slice()),
+        (1, Status::ReadFault, b"script: cannot read\n"),
+        (2, Status::ReadFault, b"script: cannot read\n"),
+        (3, Status::ReadFault, b"line 1: cannot read\n"),
+        (4, Status::ReadFault, b"line 1: cannot read\n"),
+        (5, Status::ReadFault, b"line 1: cannot read\n"),
+        (6, Status::ReadFault, b"line 1: cannot read\n"),
+        (7, Status::ReadFault, b"line 1: cannot read\n"),
+        (1028, Status::ReadFault, b"line 1: cannot read\n"),
+        (1029, Status::Refused, b"line 1: file too long\n"),
+    ] {
+        let outside = Outside {
+            step: 1 << 16,
+            failing_call,
+            ..SOUND
+        };
+        let (given, taken) = outcome(&rt, rt.alloc(), found, outside)?;
+        assert_eq!(rt; given, status, "call {failing_call}");
+        assert_eq!(rt; taken.as_slice(), wanted, "call {failing_call}");
+    }
+    Ok(())
+}
+
 /// Each call of each row fails, where calls hand on at most one byte, three, or all.
 fn check_rows<R: Threads + Sync + Abort>(
     rt: &R,
