@@ -1,0 +1,98 @@
+//! Tables of synthetics and their passes.
+ghost use Rattle.std.specs.Prelude.{◌≡◌, true};
+
+use crate::outcome::{Outcome, print, refused};
+use nfg_cells::CellTable;
+use nfg_syn::{InternError, OwnTable, Shared, Synthetics};
+use nfg_text::is_text;
+use std::alloc::{AllocError, Global};
+use std::io;
+
+/// A text that each pass knows first.
+const FIRST: [u32; 2] = [0x71, 0x323];
+
+/// The number of a text.
+fn number<T: Synthetics>(
+    alloc: Global,
+    table: &T,
+    pass: &mut T::Pass,
+    codes: &[u32],
+) -> Result<i32, InternError>
+    requires { T.is_of table.now pass.old }
+    ensures table { T.is_of table.now pass.new }
+    ensures root { (T.seen pass.new).root ≡ (T.seen pass.old).root }
+{
+    if codes.len() < 2 || codes.len() > 1024 || !is_text(codes) {
+        return Err(InternError::RowFull);
+    }
+    table.intern(alloc, pass, codes)
+}
+
+/// The number of the first text, which the pass knows then.
+fn first<T: Synthetics>(alloc: Global, table: &T, pass: &mut T::Pass) -> Result<i32, AllocError>
+    requires { T.is_of table.now pass.old }
+    ensures table { T.is_of table.now pass.new }
+    ensures root { (T.seen pass.new).root ≡ (T.seen pass.old).root }
+{
+    match number(alloc, table, pass, &FIRST) {
+        Ok(n) => Ok(n),
+        Err(_) => Err(AllocError),
+    }
+}
+
+/// Where a text is refused, the pass knows the earlier one by its number, and the refused one gets a number then.
+fn intern<T: Synthetics>(
+    alloc: Global,
+    table: &T,
+    pass: &mut T::Pass,
+) -> Result<Outcome, AllocError>
+    requires { T.is_of table.now pass.old }
+{
+    let known = first(alloc, table, pass)?;
+    // as long a text as wants room of its own
+    let other = [0x304; 200];
+    match number(alloc, table, pass, &other) {
+        Ok(_) => Ok(Outcome::Done),
+        Err(_) => {
+            let same = number(alloc, table, pass, &FIRST) == Ok(known);
+            let new = number(alloc, table, pass, &other).is_ok();
+            Ok(refused(same && new))
+        }
+    }
+}
+
+/// Where a fork is refused, the pass knows what it knew, and the next fork is made.
+fn fork<T: Shared>(alloc: Global, table: &T, pass: &mut T::Pass) -> Result<Outcome, AllocError>
+    requires table { T.is_of table.now pass.old }
+    requires root { (T.seen pass.old).root ≡ true }
+{
+    let known = first(alloc, table, pass)?;
+    match table.fork(alloc, pass) {
+        Ok(_) => Ok(Outcome::Done),
+        Err(_) => {
+            let same = number(alloc, table, pass, &FIRST) == Ok(known);
+            Ok(refused(same && table.fork(alloc, pass).is_ok()))
+        }
+    }
+}
+
+fn intern_alone(alloc: Global) -> Result<Outcome, AllocError> {
+    let (table, mut pass) = OwnTable::new(alloc, 16)?;
+    intern(alloc, &table, &mut pass)
+}
+
+fn intern_in_cells(alloc: Global) -> Result<Outcome, AllocError> {
+    let (table, mut pass) = CellTable::new(alloc, 16)?;
+    intern(alloc, &table, &mut pass)
+}
+
+fn fork_over_cells(alloc: Global) -> Result<Outcome, AllocError> {
+    let (table, mut pass) = CellTable::new(alloc, 16)?;
+    fork(alloc, &table, &mut pass)
+}
+
+pub(crate) fn report(rt: &impl Print, alloc: Global) -> io::Result<()> {
+    print(rt, "intern of OwnTable", intern_alone(alloc))?;
+    print(rt, "intern of CellTable", intern_in_cells(alloc))?;
+    print(rt, "fork of CellTable", fork_over_cells(alloc))
+}
