@@ -5,6 +5,7 @@ use crate::outcome::{Outcome, print, refused};
 use nfg_cells::CellTable;
 use nfg_syn::{InternError, OwnTable, Shared, Synthetics};
 use nfg_text::is_text;
+use nfg_words::WordTable;
 use std::alloc::{AllocError, Global};
 use std::io;
 
@@ -76,6 +77,45 @@ fn fork<T: Shared>(alloc: Global, table: &T, pass: &mut T::Pass) -> Result<Outco
     }
 }
 
+/// Two forks number one text, and are met. Answers whether both gave it one number, by which the first pass knows it then.
+fn number_by_forks<T: Shared>(
+    alloc: Global,
+    table: &T,
+    pass: &mut T::Pass,
+) -> Result<bool, AllocError>
+    requires table { T.is_of table.now pass.old }
+    requires root { (T.seen pass.old).root ≡ true }
+{
+    let mut one = table.fork(alloc, pass)?;
+    let mut other = table.fork(alloc, pass)?;
+    let number_of_one = first(alloc, table, &mut one)?;
+    let number_of_other = first(alloc, table, &mut other)?;
+    if table.meet(alloc, pass, one).is_err() || table.meet(alloc, pass, other).is_err() {
+        return Err(AllocError);
+    }
+    let known = first(alloc, table, pass)?;
+    Ok(known == number_of_one && known == number_of_other)
+}
+
+/// What came of two forks, each call of which may be refused.
+fn outcome_of_forks(same: Result<bool, AllocError>) -> Outcome {
+    match same {
+        Ok(true) => Outcome::Done,
+        Ok(false) => Outcome::Changed,
+        Err(_) => Outcome::Kept,
+    }
+}
+
+fn forks_over_cells(alloc: Global) -> Result<Outcome, AllocError> {
+    let (table, mut pass) = CellTable::new(alloc, 16)?;
+    Ok(outcome_of_forks(number_by_forks(alloc, &table, &mut pass)))
+}
+
+fn forks_over_words(alloc: Global) -> Result<Outcome, AllocError> {
+    let (table, mut pass) = WordTable::new(alloc, 16)?;
+    Ok(outcome_of_forks(number_by_forks(alloc, &table, &mut pass)))
+}
+
 fn intern_alone(alloc: Global) -> Result<Outcome, AllocError> {
     let (table, mut pass) = OwnTable::new(alloc, 16)?;
     intern(alloc, &table, &mut pass)
@@ -94,5 +134,15 @@ fn fork_over_cells(alloc: Global) -> Result<Outcome, AllocError> {
 pub(crate) fn report(rt: &impl Print, alloc: Global) -> io::Result<()> {
     print(rt, "intern of OwnTable", intern_alone(alloc))?;
     print(rt, "intern of CellTable", intern_in_cells(alloc))?;
-    print(rt, "fork of CellTable", fork_over_cells(alloc))
+    print(rt, "fork of CellTable", fork_over_cells(alloc))?;
+    print(
+        rt,
+        "one text by two forks over CellTable",
+        forks_over_cells(alloc),
+    )?;
+    print(
+        rt,
+        "one text by two forks over WordTable",
+        forks_over_words(alloc),
+    )
 }
