@@ -4,7 +4,10 @@ ghost use Rattle.std.specs.Prelude.{◌≤◌};
 use crate::drawn_outside::{DrawnFiles, DrawnSink};
 use crate::draws::Draws;
 use crate::tests::{Found, Outside, SOUND, outcome, over, words_of};
-use crate::worked_rows::{BAD, CLUSTERS, ENCODED, FIRST, Load, PUT, REFUSED, SILENT, WorkedRow};
+use crate::worked_rows::{
+    BAD, CLUSTERS, ENCODED, FIRST, Load, NONE, PUT, REFUSED, SILENT, WorkedRow,
+};
+use crate::worked_strings::{LONG, STRINGS, WORDS};
 use crate::{OpenGate, Status, run};
 use nfg_io::{MemoryFiles, MemorySink};
 use std::alloc::{AllocError, Global};
@@ -13,10 +16,10 @@ use std::process::Abort;
 use std::test::Fail;
 use std::thread::Threads;
 
-/// A run of a worked row, by one worker over few places.
-fn found(row: &WorkedRow) -> Found<'static> {
+/// A run of a worked row.
+fn found<'a>(row: &WorkedRow<'a>) -> Found<'a> {
     Found {
-        line: "run --workers 1 --table 16 s",
+        line: row.line,
         script: row.script,
         f: row.f,
         g: row.g,
@@ -27,7 +30,7 @@ fn found(row: &WorkedRow) -> Found<'static> {
 fn check_outcome<R: Threads + Sync + Abort>(
     rt: &R,
     alloc: Global,
-    row: &WorkedRow,
+    row: &WorkedRow<'_>,
     outside: Outside,
     wanted_status: Status,
     wanted: &[u8],
@@ -90,7 +93,7 @@ fn each_failed_write_of_a_byte_leaves_those_before_it(rt: HostRuntime) -> Result
 }
 
 /// Files in memory, with the script and the files of a row.
-fn files_of(alloc: Global, row: &WorkedRow, step: usize) -> Result<MemoryFiles, AllocError>
+fn files_of(alloc: Global, row: &WorkedRow<'_>, step: usize) -> Result<MemoryFiles, AllocError>
     requires { 1 ≤ step }
 {
     let mut files = MemoryFiles::new(alloc, step);
@@ -139,7 +142,7 @@ fn calls_of(len: usize, step: usize) -> u64
 fn check_failed_calls<R: Threads + Sync + Abort>(
     rt: &R,
     alloc: Global,
-    row: &WorkedRow,
+    row: &WorkedRow<'_>,
     step: usize,
     first: u64,
     len: usize,
@@ -163,7 +166,7 @@ fn check_failed_calls<R: Threads + Sync + Abort>(
 fn check_files<R: Threads + Sync + Abort>(
     rt: &R,
     alloc: Global,
-    row: &WorkedRow,
+    row: &WorkedRow<'_>,
     step: usize,
 ) -> Result<(), Fail>
     requires { 1 ≤ step }
@@ -191,7 +194,7 @@ fn check_files<R: Threads + Sync + Abort>(
 fn check_writes<R: Threads + Sync + Abort>(
     rt: &R,
     alloc: Global,
-    row: &WorkedRow,
+    row: &WorkedRow<'_>,
     step: usize,
 ) -> Result<(), Fail>
     requires { 1 ≤ step }
@@ -248,7 +251,7 @@ fn each_failed_call_on_a_file_too_long_is_told(rt: HostRuntime) -> Result<(), Fa
 fn check_rows<R: Threads + Sync + Abort>(
     rt: &R,
     alloc: Global,
-    rows: &[WorkedRow],
+    rows: &[WorkedRow<'_>],
 ) -> Result<(), Fail> {
     for row in rows {
         for step in [1, 3, 1 << 16] {
@@ -268,20 +271,127 @@ fn each_failed_call_of_each_row_is_told(rt: HostRuntime) -> Result<(), Fail> {
         PUT.as_slice(),
         SILENT.as_slice(),
         BAD.as_slice(),
+        STRINGS.as_slice(),
     ] {
         check_rows(&rt, rt.alloc(), rows)?;
     }
     Ok(())
 }
 
+#[test]
+fn each_failed_write_without_a_script_is_told(rt: HostRuntime) -> Result<(), Fail> {
+    for row in WORDS.as_slice() {
+        for step in [1, 3, 1 << 16] {
+            check_writes(&rt, rt.alloc(), row, step)?;
+        }
+    }
+    for step in [1, 3, 1 << 16] {
+        check_writes(&rt, rt.alloc(), &LONG, step)?;
+    }
+    Ok(())
+}
+
+/// Each call on files and each write fails in a run of this script, which reads no file.
+fn check_script<'a, R: Threads + Sync + Abort>(
+    rt: &R,
+    alloc: Global,
+    script: &'a [u8],
+    status: Status,
+    wanted: &'a [u8],
+) -> Result<(), Fail> {
+    let row = WorkedRow {
+        script,
+        status,
+        wanted,
+        ..NONE
+    };
+    check_rows(rt, alloc, &[row])
+}
+
+/// A line of q and so many acute accents, as a text of this name.
+fn add_long_text(script: &mut Vec<u8>, name: &str, accents: usize) -> Result<(), AllocError> {
+    script.extend_from_slice(b"text ")?;
+    script.extend_from_slice(name.as_bytes())?;
+    script.extend_from_slice(b" 71")?;
+    for _k in 0..accents {
+        script.extend_from_slice(b" 301")?;
+    }
+    script.extend_from_slice(b"\n")
+}
+
+#[test]
+fn each_failed_call_about_a_long_cluster_is_told(rt: HostRuntime) -> Result<(), Fail> {
+    let mut script = Vec::new(rt.alloc());
+    add_long_text(&mut script, "a", 1_023)?;
+    script.extend_from_slice(b"len a\n")?;
+    add_long_text(&mut script, "b", 1_024)?;
+    let wanted = b"1\nline 3: cluster too long at grapheme 0\n";
+    check_script(&rt, rt.alloc(), script.as_slice(), Status::Refused, wanted)
+}
+
+#[test]
+fn each_failed_call_about_a_full_table_is_told(rt: HostRuntime) -> Result<(), Fail> {
+    let mut script = Vec::new(rt.alloc());
+    for k in 0..17 {
+        let line = format!(in rt.alloc(); "text t{k} 71 {:X}\n", 0x300 + k)?;
+        script.extend_from_slice(line.as_bytes())?;
+    }
+    let wanted = b"line 17: table full\n";
+    check_script(&rt, rt.alloc(), script.as_slice(), Status::Refused, wanted)
+}
+
+#[test]
+fn each_failed_call_about_many_strands_is_told(rt: HostRuntime) -> Result<(), Fail> {
+    let mut script = Vec::new(rt.alloc());
+    script.extend_from_slice(b"text s0 61\ntext b 62\n")?;
+    for k in 0..64 {
+        let line = format!(in rt.alloc(); "cat s{} s{k} b\n", k + 1)?;
+        script.extend_from_slice(line.as_bytes())?;
+    }
+    script.extend_from_slice(b"shape s63\nshape s64\n")?;
+    let mut wanted = Vec::new(rt.alloc());
+    wanted.extend_from_slice(b"strands 64")?;
+    for _k in 0..64 {
+        wanted.extend_from_slice(b" 1x1/8")?;
+    }
+    wanted.extend_from_slice(b"\nstrands 1 65x1/8\n")?;
+    check_script(
+        &rt,
+        rt.alloc(),
+        script.as_slice(),
+        Status::Done,
+        wanted.as_slice(),
+    )
+}
+
+#[test]
+fn each_failed_call_about_a_long_script_is_told(rt: HostRuntime) -> Result<(), Fail> {
+    let mut script = Vec::new(rt.alloc());
+    script.resize(10_001, b'\n')?;
+    let wanted = b"script: too long\n";
+    check_script(&rt, rt.alloc(), script.as_slice(), Status::Bad, wanted)
+}
+
+#[test]
+fn each_failed_call_about_long_output_is_told(rt: HostRuntime) -> Result<(), Fail> {
+    let row = WorkedRow {
+        script: b"text a 1F600\nrep b a 67108864\nlen b\nshow b\n",
+        status: Status::Refused,
+        wanted: b"67108864\nline 4: output too long\n",
+        ..NONE
+    };
+    check_files(&rt, rt.alloc(), &row, 1 << 16)?;
+    check_writes(&rt, rt.alloc(), &row, 1 << 16)
+}
+
 /// A run of the row whose calls hand on drawn numbers of bytes says what the row does.
 fn check_drawn<R: Threads + Sync + Abort>(
     rt: &R,
     alloc: Global,
-    row: &WorkedRow,
+    row: &WorkedRow<'_>,
     seed: u32,
 ) -> Result<(), Fail> {
-    let words = words_of(alloc, "run --workers 1 --table 16 s")?;
+    let words = words_of(alloc, row.line)?;
     let mut files = DrawnFiles {
         files: files_of(alloc, row, 1 << 16)?,
         draws: Draws::new(seed),
@@ -305,6 +415,7 @@ fn short_reads_and_writes_change_nothing(rt: HostRuntime) -> Result<(), Fail> {
         PUT.as_slice(),
         SILENT.as_slice(),
         BAD.as_slice(),
+        STRINGS.as_slice(),
     ] {
         for row in rows {
             for seed in 0..20 {

@@ -57,6 +57,8 @@ mod words;
 #[cfg(test)]
 mod worked_rows;
 #[cfg(test)]
+mod worked_strings;
+#[cfg(test)]
 mod worker_tests;
 mod writing;
 

@@ -107,7 +107,7 @@ fn check_run<R: Threads + Sync + Abort>(
 }
 
 /// What a run of a worked row finds.
-fn found_of(row: &WorkedRow) -> Found<'static> {
+fn found_of<'a>(row: &WorkedRow<'a>) -> Found<'a> {
     Found {
         line: "run s",
         script: row.script,
@@ -120,7 +120,7 @@ fn found_of(row: &WorkedRow) -> Found<'static> {
 fn check_rows<R: Threads + Sync + Abort>(
     rt: &R,
     alloc: Global,
-    rows: &[WorkedRow],
+    rows: &[WorkedRow<'_>],
 ) -> Result<(), Fail> {
     for row in rows {
         check_run(rt, alloc, found_of(row), row.status, row.wanted)?;

@@ -10,18 +10,21 @@ pub(crate) struct Load {
     pub before: &'static str,
 }
 
-/// The script, the files `f` and `g`, what a run says, and the loads that it does.
+/// The words of the command line, the script, the files `f` and `g`, what a run says, and the loads that it does.
 #[derive(Clone, Copy)]
-pub(crate) struct WorkedRow {
-    pub script: &'static [u8],
-    pub f: &'static [u8],
-    pub g: &'static [u8],
+pub(crate) struct WorkedRow<'a> {
+    pub line: &'a str,
+    pub script: &'a [u8],
+    pub f: &'a [u8],
+    pub g: &'a [u8],
     pub status: Status,
-    pub wanted: &'static [u8],
-    pub loads: &'static [Load],
+    pub wanted: &'a [u8],
+    pub loads: &'a [Load],
 }
 
-const NONE: WorkedRow = WorkedRow {
+/// An empty script, by one worker over few places.
+pub(crate) const NONE: WorkedRow<'static> = WorkedRow {
+    line: "run --workers 1 --table 16 s",
     script: b"",
     f: b"",
     g: b"",
@@ -37,21 +40,21 @@ const LOAD_F: Load = Load {
     before: "",
 };
 
-const SHOWN: WorkedRow = WorkedRow {
+const SHOWN: WorkedRow<'static> = WorkedRow {
     script: b"load a utf8 f\nlen a\nshow a\n",
     loads: &[LOAD_F],
     ..NONE
 };
 
 /// The row of which each call is told by its number.
-pub(crate) const FIRST: WorkedRow = WorkedRow {
+pub(crate) const FIRST: WorkedRow<'static> = WorkedRow {
     f: b"e\xcc\x81\r\nq",
     wanted: b"3\nE9 D+A 71\n",
     ..SHOWN
 };
 
 /// Files and the clusters that a reader sees.
-pub(crate) static CLUSTERS: [WorkedRow; 6] = [
+pub(crate) static CLUSTERS: [WorkedRow<'static>; 6] = [
     FIRST,
     WorkedRow {
         f: b"Ze\xcc\x81 \xe0\xa4\xa8\xe0\xa4\xae\xe0\xa4\xb8\xe0\xa5\x8d\xe0\xa4\xa4\xe0\xa5\x87\r\n",
@@ -80,7 +83,7 @@ pub(crate) static CLUSTERS: [WorkedRow; 6] = [
 ];
 
 /// Files of several encodings.
-pub(crate) static ENCODED: [WorkedRow; 4] = [
+pub(crate) static ENCODED: [WorkedRow<'static>; 4] = [
     WorkedRow {
         script: b"load a utf16 f\nload b utf16 g\nshow a\nshow b\n",
         f: b"\xff\xfe\x41\x00",
@@ -139,7 +142,7 @@ pub(crate) static ENCODED: [WorkedRow; 4] = [
 ];
 
 /// Lines that are refused.
-pub(crate) static REFUSED: [WorkedRow; 5] = [
+pub(crate) static REFUSED: [WorkedRow<'static>; 5] = [
     WorkedRow {
         script: b"load a utf8 f\n",
         f: b"a\xe2\x82",
@@ -189,14 +192,14 @@ pub(crate) static REFUSED: [WorkedRow; 5] = [
 ];
 
 /// A string in three encodings.
-pub(crate) static PUT: [WorkedRow; 1] = [WorkedRow {
+pub(crate) static PUT: [WorkedRow<'static>; 1] = [WorkedRow {
     script: b"text a E9 D A\nput a utf8\nput a utf16\nput a latin1\n",
     wanted: b"\xc3\xa9\r\n\xfe\xff\x00\xe9\x00\r\x00\n\xe9\r\n",
     ..NONE
 }];
 
 /// Scripts that print nothing.
-pub(crate) static SILENT: [WorkedRow; 4] = [
+pub(crate) static SILENT: [WorkedRow<'static>; 4] = [
     WorkedRow {
         script: b"",
         ..NONE
@@ -216,7 +219,7 @@ pub(crate) static SILENT: [WorkedRow; 4] = [
 ];
 
 /// Scripts that are refused.
-pub(crate) static BAD: [WorkedRow; 9] = [
+pub(crate) static BAD: [WorkedRow<'static>; 9] = [
     WorkedRow {
         script: b"cat x a b\n",
         status: Status::Bad,
