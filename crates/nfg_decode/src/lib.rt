@@ -16,6 +16,8 @@ mod tail;
 mod tests;
 mod utf16;
 mod utf8;
+mod utf8_codes;
+mod utf8_steps;
 
 pub use encoding::{DecodeError, Encoding};
 pub use stream::ByteStream;

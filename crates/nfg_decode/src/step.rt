@@ -8,7 +8,7 @@ ghost use Rattle.nfg_decode.specs.Tail.{bytes_of};
 
 use crate::reading::Form;
 use crate::tail::Tail;
-use crate::utf8::step_utf8;
+use crate::utf8_steps::step_utf8;
 use crate::utf16::step_utf16;
 
 /// What the held bytes and one more are. It is not said of bytes that are malformed, or that no

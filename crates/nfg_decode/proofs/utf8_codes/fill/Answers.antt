@@ -2,7 +2,7 @@ use Rattle.std.proofs.Common.{◌∙◌, ap, sym, length}
 use Rattle.std.proofs.lemmas.List.{take_at}
 use Rattle.std.proofs.lemmas.Str.{chars-IsAscii}
 use Rattle.std.specs.Str.{chars, IsAscii}
-use Rattle.nfg_decode.proofs.utf8.fill.Goals as goal
+use Rattle.nfg_decode.proofs.utf8_codes.fill.Goals as goal
 
 pub returns-then-is_ascii-clause-codes : goal.returns-then-is_ascii-clause-codes
 returns-then-is_ascii-clause-codes c =

@@ -1,6 +1,6 @@
 use Rattle.std.proofs.Common.{arith}
 use Rattle.nfg_decode.proofs.FrontLemmas.{front_ascii, front_none}
-use Rattle.nfg_decode.proofs.utf8.fill_ascii.Goals as goal
+use Rattle.nfg_decode.proofs.utf8_codes.fill_ascii.Goals as goal
 
 pub loop-n-init : goal.loop-n-init
 loop-n-init c = front_none c.args.text.now c.requires.text

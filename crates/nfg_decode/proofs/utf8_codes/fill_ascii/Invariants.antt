@@ -1,6 +1,6 @@
 use Rattle.std.proofs.Common.{◌-◌, length, take}
 use Rattle.nfg_decode.specs.Utf8.{IsFront}
-use Rattle.nfg_decode.proofs.utf8.fill_ascii.Given as goal
+use Rattle.nfg_decode.proofs.utf8_codes.fill_ascii.Given as goal
 
 abbrev pub invariant-loop-n : goal.invariant-loop-n
 invariant-loop-n l = IsFront l.text l.n (take l.n l.codes)

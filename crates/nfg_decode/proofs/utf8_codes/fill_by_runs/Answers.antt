@@ -4,7 +4,7 @@ use Rattle.std.specs.Str.{chars}
 use borrow.Rule.Slice.PartMut.{put_mid, same_len_mid}
 use Rattle.nfg_decode.proofs.Utf8Text.{chars_of_empty}
 use Rattle.nfg_decode.proofs.FrontLemmas.{front_behind, front_none}
-use Rattle.nfg_decode.proofs.utf8.fill_by_runs.Goals as goal
+use Rattle.nfg_decode.proofs.utf8_codes.fill_by_runs.Goals as goal
 
 pub loop-at-init : goal.loop-at-init
 loop-at-init c = record { front = front_none c.as_bytes-bytes.result.now c.as_bytes-bytes.ensures.utf8; count = omega arith }

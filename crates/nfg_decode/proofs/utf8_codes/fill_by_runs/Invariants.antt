@@ -1,6 +1,6 @@
 use Rattle.std.proofs.Common.{◌-◌, ◌≤◌, length, take}
 use Rattle.nfg_decode.specs.Utf8.{IsFront}
-use Rattle.nfg_decode.proofs.utf8.fill_by_runs.Given as goal
+use Rattle.nfg_decode.proofs.utf8_codes.fill_by_runs.Given as goal
 
 abbrev pub invariant-loop-at : goal.invariant-loop-at
 invariant-loop-at l = record {

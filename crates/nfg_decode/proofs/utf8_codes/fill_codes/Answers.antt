@@ -2,7 +2,7 @@ use Rattle.std.proofs.Common.{◌≡◌, [], ◌++◌, ◌∙◌, sym, ap, take,
 use Rattle.std.proofs.lemmas.List.{append-nil}
 use Rattle.std.specs.Str.{chars}
 use Rattle.nfg_decode.proofs.Utf8Text.{chars_of_empty}
-use Rattle.nfg_decode.proofs.utf8.fill_codes.Goals as goal
+use Rattle.nfg_decode.proofs.utf8_codes.fill_codes.Goals as goal
 
 pub returns-clause-codes : goal.returns-clause-codes
 returns-clause-codes c =

@@ -1,6 +1,6 @@
 use Rattle.std.proofs.Common.{◌≡◌, ◌+◌, ◌-◌, ◌≤◌, ◌++◌, length, take, drop, IsUtf8}
 use Rattle.std.specs.Str.{chars}
-use Rattle.nfg_decode.proofs.utf8.fill_codes.Given as goal
+use Rattle.nfg_decode.proofs.utf8_codes.fill_codes.Given as goal
 
 abbrev pub invariant-loop-at : goal.invariant-loop-at
 invariant-loop-at l = record {

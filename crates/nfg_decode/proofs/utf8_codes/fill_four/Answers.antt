@@ -3,7 +3,7 @@ use Rattle.std.proofs.lemmas.Simd.{take_more_put_chunk}
 use Rattle.std.specs.List.{list_all}
 use Rattle.nfg_decode.specs.Utf8.{IsFront, is_three_lead}
 use Rattle.nfg_decode.proofs.FrontLemmas.{four_front}
-use Rattle.nfg_decode.proofs.utf8.fill_four.Goals as goal
+use Rattle.nfg_decode.proofs.utf8_codes.fill_four.Goals as goal
 
 pub returns-clause-front : goal.returns-clause-front
 returns-clause-front c =

@@ -1,7 +1,7 @@
 use Rattle.std.proofs.Common.{◌*◌, ◌-◌, length, arith}
 use Rattle.std.proofs.lemmas.List.{take_rest}
 use Rattle.nfg_decode.proofs.FrontLemmas.{front_behind, front_none}
-use Rattle.nfg_decode.proofs.utf8.fill_fours.Goals as goal
+use Rattle.nfg_decode.proofs.utf8_codes.fill_fours.Goals as goal
 
 pub loop-fours-init : goal.loop-fours-init
 loop-fours-init c = front_none c.args.text.now c.requires.text

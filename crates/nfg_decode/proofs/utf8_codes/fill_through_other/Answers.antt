@@ -1,7 +1,7 @@
 use Rattle.std.proofs.Common.{arith, inl, inr, refl}
 use Rattle.std.proofs.lemmas.List.{take_rest}
 use Rattle.nfg_decode.proofs.FrontLemmas.{front_none, front_set}
-use Rattle.nfg_decode.proofs.utf8.fill_through_other.Goals as goal
+use Rattle.nfg_decode.proofs.utf8_codes.fill_through_other.Goals as goal
 
 pub loop-at-init : goal.loop-at-init
 loop-at-init c = record { front = front_none c.args.text.now c.requires.text; count = omega arith; through = inl refl }

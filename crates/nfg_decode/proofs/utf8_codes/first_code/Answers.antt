@@ -1,7 +1,7 @@
 use Rattle.std.proofs.Common.{◌≤◌, length, subst, sym, arith}
 use Rattle.nfg_decode.specs.Utf8.{IsFirst}
 use Rattle.nfg_decode.proofs.Utf8Sequences.{one_first, two_first, three_first, four_first}
-use Rattle.nfg_decode.proofs.utf8.first_code.Goals as goal
+use Rattle.nfg_decode.proofs.utf8_codes.first_code.Goals as goal
 
 pub bounds-text-1 : goal.bounds-text-1
 bounds-text-1 c =

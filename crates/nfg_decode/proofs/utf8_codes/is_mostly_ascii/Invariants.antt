@@ -1,5 +1,5 @@
 use Rattle.std.proofs.Common.{◌≤◌}
-use Rattle.nfg_decode.proofs.utf8.is_mostly_ascii.Given as goal
+use Rattle.nfg_decode.proofs.utf8_codes.is_mostly_ascii.Given as goal
 
 abbrev pub invariant-loop-at : goal.invariant-loop-at
 invariant-loop-at l = l.ascii ≤ l.at

@@ -1,5 +1,5 @@
 use Rattle.std.proofs.Common.{◌≤◌}
-use Rattle.nfg_decode.proofs.utf8.is_nearly_all_threes.Given as goal
+use Rattle.nfg_decode.proofs.utf8_codes.is_nearly_all_threes.Given as goal
 
 abbrev pub invariant-loop-at : goal.invariant-loop-at
 invariant-loop-at l = l.leads ≤ l.at

@@ -1,6 +1,6 @@
 use Rattle.std.proofs.Common.{arith}
 use Rattle.nfg_decode.proofs.StepLemmas.{four_whole}
-use Rattle.nfg_decode.proofs.utf8.step_four.Goals as goal
+use Rattle.nfg_decode.proofs.utf8_steps.step_four.Goals as goal
 
 pub returns : goal.returns
 returns c =

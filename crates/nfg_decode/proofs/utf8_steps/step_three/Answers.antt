@@ -1,7 +1,7 @@
 use Rattle.std.proofs.Common.{refl, arith}
 use Rattle.nfg_decode.proofs.StepLemmas.{three_whole}
 use Rattle.nfg_decode.proofs.Utf8Tails.{cut_three}
-use Rattle.nfg_decode.proofs.utf8.step_three.Goals as goal
+use Rattle.nfg_decode.proofs.utf8_steps.step_three.Goals as goal
 
 pub returns-then-a-lt240 : goal.returns-then-a-lt240
 returns-then-a-lt240 c =

@@ -1,7 +1,7 @@
 use Rattle.std.proofs.Common.{refl, arith}
 use Rattle.nfg_decode.proofs.StepLemmas.{two_whole}
 use Rattle.nfg_decode.proofs.Utf8Tails.{cut_two}
-use Rattle.nfg_decode.proofs.utf8.step_two.Goals as goal
+use Rattle.nfg_decode.proofs.utf8_steps.step_two.Goals as goal
 
 pub returns-then-a-lt224 : goal.returns-then-a-lt224
 returns-then-a-lt224 c =
