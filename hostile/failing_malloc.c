@@ -1,5 +1,5 @@
-/* Lets chosen allocations fail. hostile/memory preloads it: FAIL_AT=N lets the N-th fail, counted from 1, FAIL_FROM=N all from the
-   N-th on. COUNT_IN names a file of 8 bytes that counts them all. */
+/* Lets chosen allocations fail. hostile/memory and hostile/refusals preload it: FAIL_AT=N lets the N-th fail, counted from 1,
+   and FAIL_FROM=N all from the N-th on. COUNT_IN names a file of 8 bytes that counts them all. */
 #include <errno.h>
 #include <fcntl.h>
 #include <stdatomic.h>
