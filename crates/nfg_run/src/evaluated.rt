@@ -2,7 +2,7 @@
 ghost use Rattle.std.specs.Prelude.{◌≡◌, ◌≤◌, true, IfOk, IfSome};
 ghost use Rattle.nfg_syn.specs.Known.{IsRowSize};
 ghost use Rattle.nfg_work.specs.Evaluation.{evaluate, AreWithinLimit};
-ghost use Rattle.nfg_work.specs.Laws.{HasRoom};
+ghost use Rattle.nfg_work.specs.Laws.{HasEnoughPlaces};
 ghost use Rattle.nfg_run.specs.CommandLine.{IsWorkerCount};
 
 use crate::{Cause, FileRead, Output};
@@ -85,7 +85,7 @@ fn lesser(size: u32, places: u32) -> u32
 
 /// Whether no line was refused for a full table.
 fn has_room(output: &Output) -> bool
-    ensures { result ≡ true → HasRoom output.now }
+    ensures { result ≡ true → HasEnoughPlaces output.now }
 {
     match &output.refused {
         Some(line) => match line.cause {

@@ -16,7 +16,7 @@ use Rattle.nfg_work.specs.declared.output.FileRead.{FileRead}
 use Rattle.nfg_work.specs.declared.output.FileRead.TheVariants.{Bytes, TooLong, Failed}
 use Rattle.nfg_work.specs.Values.{Value, flat, joined, repeated}
 use Rattle.nfg_work.specs.Evaluation.{State, value_of, used_with, define, with_places, with_clusters, define_value, define_joined, join_limit, define_decoded, load, step, evaluate_from, evaluate, first_state}
-use Rattle.nfg_work.specs.Laws.{HasRoom, MorePlacesChangeNothing}
+use Rattle.nfg_work.specs.Laws.{HasEnoughPlaces, MorePlacesChangeNothing}
 use Rattle.nfg_work.proofs.FailedReads.{output_of}
 
 -- over more places comes what comes over fewer, unless these are full
@@ -94,15 +94,15 @@ step_agrees places more state numbered (Put a enc) le = λ room. refl
 
 -- a line, and those behind it
 line_agrees : (places more line : ℕ) (script : List NumberedCommand) (output : List ℕ) (fewer result : Result State Cause) → Agrees fewer result
-    → ((next : State) → HasRoom (evaluate_from places next script) → evaluate_from more next script ≡ evaluate_from places next script)
-    → HasRoom (output_of places line script output fewer)
+    → ((next : State) → HasEnoughPlaces (evaluate_from places next script) → evaluate_from more next script ≡ evaluate_from places next script)
+    → HasEnoughPlaces (output_of places line script output fewer)
     → output_of more line script output result ≡ output_of places line script output fewer
 line_agrees places more line script output (Ok next) result agrees rest room =
     ap (output_of more line script output) (agrees (λ is. cc)) ∙ rest next room
 line_agrees places more line script output (Err cause) result agrees rest room =
     ap (output_of more line script output) (agrees (λ is. room cc))
 
-lines_agree : (places more : ℕ) (state : State) (script : List NumberedCommand) → places ≤ more → HasRoom (evaluate_from places state script)
+lines_agree : (places more : ℕ) (state : State) (script : List NumberedCommand) → places ≤ more → HasEnoughPlaces (evaluate_from places state script)
     → evaluate_from more state script ≡ evaluate_from places state script
 lines_agree places more state [] le room = refl
 lines_agree places more state (numbered ∷ script) le room =

@@ -62,11 +62,11 @@ FailedReadIsCause =
     (λ refused. refused.cause ≡ CannotRead → has_failed reads ≡ true)
 
 -- no line was refused for a full table
-abbrev pub HasRoom : Output → Type 0
-HasRoom output = IfSome output.refused (λ refused. refused.cause ≢ TableFull)
+abbrev pub HasEnoughPlaces : Output → Type 0
+HasEnoughPlaces output = IfSome output.refused (λ refused. refused.cause ≢ TableFull)
 
 -- what a script gives over a table that has room for it, it gives over every larger one
 abbrev pub MorePlacesChangeNothing : Type 0
 MorePlacesChangeNothing =
     (places more : ℕ) (reads : List FileRead) (script : List NumberedCommand) → places ≤ more
-    → HasRoom (evaluate script reads places) → evaluate script reads more ≡ evaluate script reads places
+    → HasEnoughPlaces (evaluate script reads places) → evaluate script reads more ≡ evaluate script reads places

@@ -52,17 +52,14 @@ fn cost_of(work: Work<'_>, k: usize) -> u64
 
 /// Whether the job at `k` is none of its level: it stands behind a refused command, or it is a load of a large file and those
 /// were done before, in parts.
-fn is_left_out(work: Work<'_>, k: usize, in_parts: bool, end: usize) -> bool
+fn is_left_out(work: Work<'_>, k: usize, progress: &Progress) -> bool
     requires place { k < length work.script.now }
     requires plan { IsPlan work.script.now work.plan.now }
 {
-    if k >= end {
+    if k >= progress.end {
         return true;
     }
-    if !in_parts {
-        return false;
-    }
-    large_file(work.script, work.plan, work.reads, k).is_some()
+    large_file(work.script, work.plan, work.reads, progress.large, k).is_some()
 }
 
 /// The jobs whose strings, with those that were made before, don't cost too much. The others are put off: the gate is
@@ -71,7 +68,6 @@ pub(crate) fn affordable<G: Gate>(
     alloc: Global,
     work: Work<'_>,
     jobs: &[u32],
-    in_parts: bool,
     progress: &mut Progress,
     gate: &G,
 ) -> Result<Vec<u32>, AllocError>
@@ -82,7 +78,7 @@ pub(crate) fn affordable<G: Gate>(
     let mut kept = Vec::with_capacity(alloc, jobs.len())?;
     'affording: for job in jobs {
         let k = *job as usize;
-        if is_left_out(work, k, in_parts, progress.end) {
+        if is_left_out(work, k, progress) {
             continue;
         }
         let cost = cost_of(work, k);

@@ -7,7 +7,7 @@ ghost use Rattle.nfg_work.specs.Outcomes.{AreRight, GrowsBy};
 ghost use Rattle.nfg_work.specs.Workers.{CountAlike, HasMet};
 
 use crate::affordable::affordable;
-use crate::large::load_large;
+use crate::large::{least_of_large, load_large};
 use crate::level_jobs::jobs_by_level;
 use crate::meeting::{keep_all, meet_all};
 use crate::outcome::Outcome;
@@ -124,7 +124,7 @@ fn do_affordable<R: Threads + Sync, T: Shared, G: Gate>(
         reads,
         outcomes,
     };
-    let list = affordable(alloc, work, jobs, workers > 1, progress, gate)?;
+    let list = affordable(alloc, work, jobs, progress, gate)?;
     let kept = list.as_slice();
     do_level(
         rt, alloc, table, pass, script, plan, reads, outcomes, kept, workers, gate,
@@ -169,6 +169,7 @@ pub(crate) fn do_levels<R: Threads + Sync, T: Shared, G: Gate>(
     let mut progress = Progress {
         spent: 0,
         end: script.len(),
+        large: least_of_large(reads, workers),
     };
     load_large(
         rt,

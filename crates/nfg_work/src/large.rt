@@ -24,8 +24,32 @@ use std::alloc::{AllocError, Global};
 use std::marker::Sync;
 use std::thread::Threads;
 
-/// How many bytes a large file has at least.
+/// How many bytes a file has at least that is worth parts.
 const LARGE: usize = 1 << 20;
+
+/// How many bytes a large file has at least, where so many workers do a script of these files. One worker takes no file
+/// in parts. Where the files are many, workers take whole ones side by side, since then nothing is joined: a file is
+/// large where it is more than its worker's share of two rounds.
+pub(crate) fn least_of_large(reads: &[FileRead], workers: u32) -> usize
+    requires some { 1 ≤ workers }
+{
+    if workers == 1 {
+        return usize::MAX;
+    }
+    let mut all = 0usize;
+    for read in reads {
+        all = all.saturating_add(len_of(read));
+    }
+    LARGE.max(all / 2 / workers as usize + 1)
+}
+
+/// How many bytes were read.
+fn len_of(read: &FileRead) -> usize {
+    match read {
+        FileRead::Bytes(bytes) => bytes.len(),
+        _ => 0,
+    }
+}
 
 /// A large file, and the encoding in which a command loads it.
 #[derive(Clone, Copy)]
@@ -34,11 +58,12 @@ pub(crate) struct LargeFile<'a> {
     pub(crate) bytes: &'a [u8],
 }
 
-/// The file of the command at `k`, where it loads a large one.
+/// The file of the command at `k`, where it loads a large one, which has `least` bytes or more.
 pub(crate) fn large_file<'a>(
     script: &Script,
     plan: &Plan,
     reads: &'a [FileRead],
+    least: usize,
     k: usize,
 ) -> Option<LargeFile<'a>>
     requires place { k < length script.now }
@@ -53,7 +78,7 @@ pub(crate) fn large_file<'a>(
     let loads = plan.loads_before[k];
     match reads.get(loads) {
         Some(FileRead::Bytes(bytes)) => {
-            if bytes.len() < LARGE {
+            if bytes.len() < least {
                 return None;
             }
             Some(LargeFile {
@@ -151,7 +176,7 @@ fn load_at<R: Threads + Sync, T: Shared, G: Gate>(
     if k >= progress.end {
         return Ok(());
     }
-    let file = match large_file(script, plan, reads, k) {
+    let file = match large_file(script, plan, reads, progress.large, k) {
         Some(file) => file,
         None => return Ok(()),
     };

@@ -15,6 +15,8 @@ pub(crate) struct Progress {
     /// The first command that gave nothing though all that it needs was there, or else the number of commands. What
     /// stands behind it is left out: the answers end there.
     pub(crate) end: usize,
+    /// How many bytes a large file has at least. Such files are loaded in parts before the levels.
+    pub(crate) large: usize,
 }
 
 impl Progress {

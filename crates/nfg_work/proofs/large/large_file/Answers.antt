@@ -4,8 +4,8 @@ use Rattle.nfg_work.proofs.LargeLoads.{file_at}
 use Rattle.std.proofs.Common.{◌∙◌, sym}
 use Rattle.nfg_work.proofs.large.large_file.Goals as goal
 
-pub returns-else-len-lt-LARGE-clause-file : goal.returns-else-len-lt-LARGE-clause-file
-returns-else-len-lt-LARGE-clause-file c =
+pub returns-else-len-least-clause-file : goal.returns-else-len-least-clause-file
+returns-else-len-least-clause-file c =
     let script = c.args.script.now in
     let there = command_at script c.args.k c.requires.place in
     let look = c.in-Some-Bytes.ensures.lookup in
