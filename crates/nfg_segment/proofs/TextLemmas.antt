@@ -41,3 +41,13 @@ take-part [] (suc i) n = take_nil n ∙ sym (take_nil (suc i + n))
     take_nil zero = refl
     take_nil (suc k) = refl
 take-part (c ∷ cs) (suc i) n = let e : suc i + n ≡ suc (i + n) = omega arith in ap (λ l. c ∷ l) (take-part cs i n) ∙ ap (λ k. take k (c ∷ cs)) (sym e)
+
+-- two texts, one after the other
+pub IsText-append : (t u : List ℕ) → IsText t → IsText u → IsText (t ++ u)
+IsText-append [] u all more = more
+IsText-append (c ∷ cs) u all more =
+    let parts = and_parts (scalar c) (all_scalars cs) all in and_from _ _ parts.0 (IsText-append cs u parts.1 more)
+
+-- a code point is a text
+pub IsText-single : (c : ℕ) → IsScalar c → IsText (c ∷ [])
+IsText-single c h = and_from _ _ h refl

@@ -85,15 +85,8 @@ impl ClusterSink for Clusters {
         Clusters::first_long(self)
     }
 
-    fn push(&mut self, head: &[char], is_long: bool) -> Result<(), AllocError> {
+    fn push(&mut self, head: &[u32], is_long: bool) -> Result<(), AllocError> {
         let number = number_of(&mut self.longer, head)?;
-        self.numbers.push(number)?;
-        self.first_long = first_or(self.first_long, is_long, self.numbers.len() - 1);
-        Ok(())
-    }
-
-    fn push_slice(&mut self, head: &[u32], is_long: bool) -> Result<(), AllocError> {
-        let number = number_of_slice(&mut self.longer, head)?;
         self.numbers.push(number)?;
         self.first_long = first_or(self.first_long, is_long, self.numbers.len() - 1);
         Ok(())
@@ -111,25 +104,7 @@ impl ClusterSink for Clusters {
 }
 
 /// The number of a cluster, which becomes the last of the longer ones unless it has one code point.
-fn number_of(longer: &mut Texts, head: &[char]) -> Result<u32, AllocError>
-    requires { 0 < length head.now }
-    ensures number { IfOk result (λ number. (head_of longer.new number ≡ head.now) × (number < 0x8000_0000 + length longer.new)) }
-    ensures grew { (more : List (List ℕ)) × (longer.new ≡ longer.old ++ more) }
-{
-    if head.len() == 1 {
-        return Ok(head[0] as u32);
-    }
-    let index = longer.len();
-    if index >= LONGER as usize {
-        return Err(AllocError);
-    }
-    longer.push(head)?;
-    Ok(LONGER + index as u32)
-}
-
-/// The number of a cluster that is a slice of a text, which becomes the last of the longer ones
-/// unless it has one code point.
-fn number_of_slice(longer: &mut Texts, head: &[u32]) -> Result<u32, AllocError>
+fn number_of(longer: &mut Texts, head: &[u32]) -> Result<u32, AllocError>
     requires text { IsText head.now }
     requires some { 0 < length head.now }
     ensures number { IfOk result (λ number. (head_of longer.new number ≡ head.now) × (number < 0x8000_0000 + length longer.new)) }
@@ -142,7 +117,7 @@ fn number_of_slice(longer: &mut Texts, head: &[u32]) -> Result<u32, AllocError>
     if index >= LONGER as usize {
         return Err(AllocError);
     }
-    longer.push_slice(head)?;
+    longer.push(head)?;
     Ok(LONGER + index as u32)
 }
 

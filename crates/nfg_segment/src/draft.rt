@@ -1,4 +1,4 @@
-//! A list of code points that can go back to what it was.
+//! A text that can go back to what it was.
 ghost use Rattle.std.specs.Prelude.{◌≡◌, ◌≤◌, ◌+◌, [], ◌∷◌, ◌++◌, false, take, length, OnOk, OnErr, if◌then◌else◌};
 ghost use Rattle.std.specs.Char.{IsScalar};
 ghost use Rattle.nfg_text.specs.Text.{IsText};
@@ -8,13 +8,13 @@ use std::alloc::{AllocError, Global};
 use std::marker::Model;
 use std::mem;
 
-/// A list, and what it was when it was last marked. Nothing is copied to keep both: until the list
+/// A text, and what it was when it was last marked. Nothing is copied to keep both: until the text
 /// is emptied, what was marked is its front, and then it is put aside as it is.
 #[derive(Drop)]
 pub(crate) struct Draft {
-    chars: Vec<char>,
+    codes: Vec<u32>,
     marked: usize,
-    aside: Vec<char>,
+    aside: Vec<u32>,
     is_aside: bool,
 }
 
@@ -22,11 +22,12 @@ impl Model for Draft {
     ghost Value = { Drafted };
 
     ghost view = { λ d. record {
-      current = d.chars.items;
-      marked = if d.is_aside then d.aside.items else take d.marked d.chars.items;
+      current = d.codes.items;
+      marked = if d.is_aside then d.aside.items else take d.marked d.codes.items;
     } };
 
-    ghost invariant = { λ d. d.is_aside ≡ false → d.marked ≤ length d.chars.items };
+    ghost invariant = { λ d. (d.is_aside ≡ false → d.marked ≤ length d.codes.items)
+        × IsText d.codes.items × IsText d.aside.items };
 }
 
 impl Draft {
@@ -34,7 +35,7 @@ impl Draft {
         ensures { result ≡ record { current = []; marked = [] } }
     {
         Draft {
-            chars: Vec::new(alloc),
+            codes: Vec::new(alloc),
             marked: 0,
             aside: Vec::new(alloc),
             is_aside: false,
@@ -42,65 +43,64 @@ impl Draft {
     }
 
     #[inline]
-    pub(crate) fn as_slice(&self) -> &[char]
-        ensures { result.now ≡ self.now.current }
+    pub(crate) fn as_slice(&self) -> &[u32]
+        ensures codes { result.now ≡ self.now.current }
+        ensures text { IsText result.now }
     {
-        &self.chars
+        &self.codes
     }
 
     #[inline]
     pub(crate) fn len(&self) -> usize
         ensures { result ≡ length self.now.current }
     {
-        self.chars.len()
+        self.codes.len()
     }
 
     #[inline]
-    pub(crate) fn push(&mut self, c: char) -> Result<(), AllocError>
+    pub(crate) fn push(&mut self, c: u32) -> Result<(), AllocError>
+        requires { IsScalar c }
         ensures current { OnOk result (self.new.current ≡ self.old.current ++ c ∷ []) }
         ensures unchanged { OnErr result (self.new.current ≡ self.old.current) }
         ensures marked { self.new.marked ≡ self.old.marked }
     {
-        self.chars.push(c)?;
+        self.codes.push(c)?;
         Ok(())
     }
 
-    /// Adds a text at the end.
+    /// Adds another at the end.
     pub(crate) fn extend(&mut self, text: &[u32]) -> Result<(), AllocError>
         requires { IsText text.now }
         ensures current { OnOk result (self.new.current ≡ self.old.current ++ text.now) }
         ensures within { length self.new.current ≤ length self.old.current + length text.now }
         ensures marked { self.new.marked ≡ self.old.marked }
     {
-        self.chars.reserve(text.len())?;
-        for c in text {
-            self.push(to_char(*c))?;
-        }
+        self.codes.extend_from_slice(text)?;
         Ok(())
     }
 
-    /// Empties the list.
+    /// Empties the text.
     #[inline]
     pub(crate) fn clear(&mut self)
         ensures current { self.new.current ≡ [] }
         ensures marked { self.new.marked ≡ self.old.marked }
     {
         if !self.is_aside {
-            self.chars.truncate(self.marked);
-            mem::swap(&mut self.chars, &mut self.aside);
+            self.codes.truncate(self.marked);
+            mem::swap(&mut self.codes, &mut self.aside);
             self.is_aside = true;
         }
-        self.chars.clear();
+        self.codes.clear();
     }
 
-    /// Marks the list as it is.
+    /// Marks the text as it is.
     #[inline]
     pub(crate) fn mark(&mut self)
         ensures current { self.new.current ≡ self.old.current }
         ensures marked { self.new.marked ≡ self.old.current }
     {
         self.is_aside = false;
-        self.marked = self.chars.len();
+        self.marked = self.codes.len();
     }
 
     /// Goes back to what was marked.
@@ -109,19 +109,11 @@ impl Draft {
         ensures marked { self.new.marked ≡ self.old.marked }
     {
         if self.is_aside {
-            mem::swap(&mut self.chars, &mut self.aside);
+            mem::swap(&mut self.codes, &mut self.aside);
             self.is_aside = false;
-            self.marked = self.chars.len();
+            self.marked = self.codes.len();
         } else {
-            self.chars.truncate(self.marked);
+            self.codes.truncate(self.marked);
         }
     }
-}
-
-#[inline]
-pub(crate) fn to_char(c: u32) -> char
-    requires { IsScalar c }
-    ensures { result ≡ c }
-{
-    char::from_u32(c).unwrap()
 }

@@ -1,5 +1,6 @@
 //! What a segmenter holds of a text.
 ghost use Rattle.std.specs.Prelude.{◌≡◌, ◌<◌, ◌≤◌, ℕ, true, false, List, [], ◌∷◌, ◌++◌, ◌+◌, map, take, drop, length, IsTrue, IfSome, IfOk, OnOk};
+ghost use Rattle.std.specs.Char.{IsScalar};
 ghost use Rattle.std.specs.List.{slice_index_or};
 ghost use Rattle.nfg_text.specs.Forms.{nfc};
 ghost use Rattle.nfg_text.specs.Graphemes.{graphemes_of, starts_safely};
@@ -11,14 +12,15 @@ ghost use Rattle.nfg_segment.specs.Given.{Grew, with_clusters};
 ghost use Rattle.nfg_segment.specs.Held.{Keeps, next_all, closed_all, as_list, none_safe};
 
 use crate::ClusterSink;
-use crate::draft::{Draft, to_char};
+use crate::composer::{Composer, composite_of};
+use crate::draft::Draft;
 use crate::marked_run::push_settled;
 use crate::open_cluster::OpenCluster;
-use crate::open_reach::are_parted;
+use crate::open_reach::{are_parted, kind_of};
 use crate::plain::plain_lines_len;
 use crate::settled_run::{WINDOW, goes_on_settled, settled_len, unsafe_len};
 use lines::begins_with_line_end;
-use nfg_text::{Kind, append_nfc, compose_pair, starts_safely};
+use nfg_text::starts_safely;
 use std::alloc::{AllocError, Global};
 use std::marker::Model;
 
@@ -29,8 +31,7 @@ mod lines;
 pub(crate) struct Held {
     cluster: OpenCluster,
     tail: Draft,
-    // where a tail is composed; kept for its room alone
-    composed: Vec<char>,
+    composer: Composer,
 }
 
 impl Model for Held {
@@ -52,7 +53,7 @@ impl Held {
         Held {
             cluster: OpenCluster::new(alloc),
             tail: Draft::new(alloc),
-            composed: Vec::new(alloc),
+            composer: Composer::new(alloc),
         }
     }
 
@@ -102,24 +103,25 @@ impl Held {
             self.tail.clear();
             return Ok(());
         }
-        self.composed.clear();
-        append_nfc(&mut self.composed, self.tail.as_slice())?;
-        self.cluster.push_all(&self.composed, out)?;
+        self.composer
+            .push_composed(self.tail.as_slice(), &mut self.cluster, out)?;
         self.tail.clear();
         Ok(())
     }
 
     /// The code point that is the tail and starts safely, so that it is composed.
     #[inline]
-    fn single(&self) -> Option<char>
-        ensures { IfSome result (λ c. (self.now.now.tail ≡ c ∷ []) × (starts_safely c ≡ true)) }
+    fn single(&self) -> Option<u32>
+        ensures tail { IfSome result (λ c. self.now.now.tail ≡ c ∷ []) }
+        ensures scalar { IfSome result (λ c. IsScalar c) }
+        ensures safe { IfSome result (λ c. starts_safely c ≡ true) }
     {
         let tail = self.tail.as_slice();
         if tail.len() != 1 {
             return None;
         }
         let c = tail[0];
-        if !starts_safely(c as u32) {
+        if !starts_safely(c) {
             return None;
         }
         Some(c)
@@ -174,20 +176,21 @@ impl Held {
         ensures grew { Grew (S.given out.old) (S.given out.new) }
     {
         self.settle_run(text, n, ids, out)?;
-        let c = to_char(text[n]);
-        if c == '\n' {
+        let c = text[n];
+        if c == 0xA {
             self.cluster.push(c, out)?;
             self.cluster.close(out)?;
             return Ok(n + 1);
         }
-        self.cluster.close_before(c, Kind::of(c), out)?;
+        self.cluster.close_before(c, kind_of(c), out)?;
         self.tail.push(c)?;
         Ok(n + 1)
     }
 
     /// Goes on with a code point that composes with the one that is the tail. Says whether it does;
     /// if not, nothing is done.
-    fn compose_last(&mut self, c: char) -> Result<bool, AllocError>
+    fn compose_last(&mut self, c: u32) -> Result<bool, AllocError>
+        requires { IsScalar c }
         ensures follows { (fed : List ℕ) (given : List (List ℕ)) → starts_safely c ≡ false → Follows self.old.now fed given
             → IfOk result (λ done. IsTrue done → Follows self.new.now (fed ++ c ∷ []) given) }
         ensures same { IfOk result (λ done. done ≡ false → self.new.now ≡ self.old.now) }
@@ -197,7 +200,7 @@ impl Held {
         if tail.len() != 1 {
             return Ok(false);
         }
-        match compose_pair(tail[0], c) {
+        match composite_of(tail[0], c) {
             None => Ok(false),
             Some(whole) => {
                 self.tail.clear();
@@ -209,12 +212,9 @@ impl Held {
 
     /// Gives out the one code point that is all that is held, and holds the next one in its place,
     /// where the rules part them. Says whether they do; if not, nothing is done.
-    fn replace_single<S: ClusterSink>(
-        &mut self,
-        next: char,
-        out: &mut S,
-    ) -> Result<bool, AllocError>
-        requires { starts_safely next ≡ true }
+    fn replace_single<S: ClusterSink>(&mut self, next: u32, out: &mut S) -> Result<bool, AllocError>
+        requires scalar { IsScalar next }
+        requires safe { starts_safely next ≡ true }
         ensures follows { (fed : List ℕ) (given : List (List ℕ)) → Follows self.old.now fed given
             → IfOk result (λ done. IsTrue done → (more : List (List ℕ)) × (Follows self.new.now (fed ++ next ∷ []) (given ++ more))
             × (S.given out.new ≡ with_clusters (S.given out.old) more)) }
@@ -223,7 +223,7 @@ impl Held {
         ensures marked { self.new.marked ≡ self.old.marked }
         ensures grew { Grew (S.given out.old) (S.given out.new) }
     {
-        if next == '\n' {
+        if next == 0xA {
             return Ok(false);
         }
         if self.cluster.is_some() {
@@ -235,7 +235,7 @@ impl Held {
                 if !are_parted(first, next) {
                     return Ok(false);
                 }
-                out.push_run(&[first as u32])?;
+                out.push_run(&[first])?;
                 self.tail.clear();
                 self.tail.push(next)?;
                 Ok(true)
@@ -255,7 +255,7 @@ impl Held {
         ensures marked { self.new.marked ≡ self.old.marked }
         ensures grew { Grew (S.given out.old) (S.given out.new) }
     {
-        if self.replace_single(to_char(text[0]), out)? {
+        if self.replace_single(text[0], out)? {
             return Ok(1);
         }
         self.take_run(text, 0, &[], out)
@@ -321,7 +321,7 @@ impl Held {
         if starts_safely(text[0]) {
             return self.take_next_safe(text, out);
         }
-        if self.compose_last(to_char(text[0]))? {
+        if self.compose_last(text[0])? {
             return Ok(1);
         }
         let n = unsafe_len(text);

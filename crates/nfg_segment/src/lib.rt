@@ -6,6 +6,7 @@ pub use segmenter::Segmenter;
 pub use sink::ClusterSink;
 
 mod clusters;
+mod composer;
 mod draft;
 mod held;
 mod marked_run;

@@ -1,5 +1,6 @@
 //! The cluster that is not finished.
 ghost use Rattle.std.specs.Prelude.{◌≡◌, ◌<◌, ◌+◌, ℕ, false, List, [], ◌∷◌, ◌++◌, length, reverse, IsTrue, OnOk};
+ghost use Rattle.std.specs.Char.{IsScalar};
 ghost use Rattle.nfg_text.specs.Breaks.{IsKindOf, Remembers};
 ghost use Rattle.nfg_text.specs.Text.{IsText};
 ghost use Rattle.nfg_segment.specs.Given.{Grew, with_cluster, with_clusters};
@@ -7,6 +8,7 @@ ghost use Rattle.nfg_segment.specs.Held.{Keeps, is_some, ends_before, closed, le
 
 use crate::ClusterSink;
 use crate::draft::Draft;
+use crate::open_reach::kind_of;
 use nfg_text::{Kind, Memory};
 use std::alloc::{AllocError, Global};
 use std::marker::Model;
@@ -92,7 +94,7 @@ impl OpenCluster {
 
     /// Whether there is a cluster that ends before the code point.
     #[inline]
-    fn ends_before(&self, c: char, kind: Kind) -> bool
+    fn ends_before(&self, c: u32, kind: Kind) -> bool
         requires { IsKindOf kind c }
         ensures cluster { (cluster : List ℕ) → Keeps self.now.now cluster → result ≡ ends_before cluster c }
         ensures head { IsTrue result → 0 < length self.now.now.head }
@@ -119,7 +121,7 @@ impl OpenCluster {
     #[inline]
     pub(crate) fn close_before<S: ClusterSink>(
         &mut self,
-        c: char,
+        c: u32,
         kind: Kind,
         out: &mut S,
     ) -> Result<(), AllocError>
@@ -150,8 +152,9 @@ impl OpenCluster {
 
     /// Goes on with a code point of the same cluster.
     #[inline(always)]
-    fn join(&mut self, c: char, kind: Kind) -> Result<(), AllocError>
-        requires { IsKindOf kind c }
+    fn join(&mut self, c: u32, kind: Kind) -> Result<(), AllocError>
+        requires scalar { IsScalar c }
+        requires kind { IsKindOf kind c }
         ensures joined { (cluster : List ℕ) → Keeps self.old.now cluster → OnOk result (Keeps self.new.now (cluster ++ c ∷ [])) }
         ensures marked { self.new.marked ≡ self.old.marked }
     {
@@ -211,11 +214,12 @@ impl OpenCluster {
     #[inline(always)]
     fn push_kind<S: ClusterSink>(
         &mut self,
-        c: char,
+        c: u32,
         kind: Kind,
         out: &mut S,
     ) -> Result<(), AllocError>
-        requires { IsKindOf kind c }
+        requires scalar { IsScalar c }
+        requires kind { IsKindOf kind c }
         ensures given { (cluster : List ℕ) → Keeps self.old.now cluster
             → OnOk result ((Keeps self.new.now (next cluster c)) × (S.given out.new ≡ with_clusters (S.given out.old) (closed cluster c))) }
         ensures marked { self.new.marked ≡ self.old.marked }
@@ -226,30 +230,14 @@ impl OpenCluster {
     }
 
     /// Goes on with the next code point of the NFC.
-    pub(crate) fn push<S: ClusterSink>(&mut self, c: char, out: &mut S) -> Result<(), AllocError>
+    pub(crate) fn push<S: ClusterSink>(&mut self, c: u32, out: &mut S) -> Result<(), AllocError>
+        requires { IsScalar c }
         ensures given { (cluster : List ℕ) → Keeps self.old.now cluster
             → OnOk result ((Keeps self.new.now (next cluster c)) × (S.given out.new ≡ with_clusters (S.given out.old) (closed cluster c))) }
         ensures marked { self.new.marked ≡ self.old.marked }
         ensures grew { Grew (S.given out.old) (S.given out.new) }
     {
-        self.push_kind(c, Kind::of(c), out)
-    }
-
-    /// Goes on with the next code points of the NFC.
-    pub(crate) fn push_all<S: ClusterSink>(
-        &mut self,
-        chars: &[char],
-        out: &mut S,
-    ) -> Result<(), AllocError>
-        ensures given { (cluster : List ℕ) → Keeps self.old.now cluster
-            → OnOk result ((Keeps self.new.now (next_all cluster chars.now)) × (S.given out.new ≡ with_clusters (S.given out.old) (closed_all cluster chars.now))) }
-        ensures marked { self.new.marked ≡ self.old.marked }
-        ensures grew { Grew (S.given out.old) (S.given out.new) }
-    {
-        for c in chars {
-            self.push(*c, out)?;
-        }
-        Ok(())
+        self.push_kind(c, kind_of(c), out)
     }
 }
 
@@ -265,9 +253,9 @@ pub(crate) fn give_slice<S: ClusterSink>(cluster: &[u32], out: &mut S) -> Result
         return Ok(());
     }
     if cluster.len() > LONGEST {
-        out.push_slice(&cluster[..LONGEST], true)?;
+        out.push(&cluster[..LONGEST], true)?;
         return Ok(());
     }
-    out.push_slice(cluster, false)?;
+    out.push(cluster, false)?;
     Ok(())
 }

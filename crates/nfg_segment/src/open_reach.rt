@@ -139,9 +139,11 @@ pub(crate) fn kind_of(c: u32) -> Kind
 }
 
 /// Whether a cluster ends between the two code points where it begins before the first.
-pub(crate) fn are_parted(first: char, next: char) -> bool
+pub(crate) fn are_parted(first: u32, next: u32) -> bool
+    requires first { IsScalar first }
+    requires next { IsScalar next }
     ensures { result ≡ is_grapheme_break true (first ∷ []) (next ∷ []) }
 {
-    let memory = Memory::new().then(kind_of(first as u32));
-    memory.breaks_before(kind_of(next as u32))
+    let memory = Memory::new().then(kind_of(first));
+    memory.breaks_before(kind_of(next))
 }

@@ -6,8 +6,8 @@ ghost use Rattle.nfg_segment.specs.Given.{Given, Grew, with_head, with_clusters}
 
 use std::alloc::AllocError;
 
-/// What takes clusters in order. A text that is mostly plain reaches it as slices of code points
-/// that are clusters of their own, so it can keep them without a look at each.
+/// What takes clusters in order, as code points. A text that is mostly plain reaches it as slices of
+/// code points that are clusters of their own, so it can keep them without a look at each.
 pub trait ClusterSink {
     /// The clusters that it was given, each by its first 1,024 code points.
     ghost given: { Self → Given };
@@ -21,14 +21,7 @@ pub trait ClusterSink {
         ensures { result ≡ (given self.now).first_long };
 
     /// Takes one cluster more, by its first code points. Where it has more than these, it is long.
-    fn push(&mut self, head: &[char], is_long: bool) -> Result<(), AllocError>
-        requires some { 0 < length head.now }
-        requires short { length head.now ≤ 1024 }
-        ensures pushed { OnOk result (given self.new ≡ with_head (given self.old) head.now is_long) }
-        ensures grew { Grew (given self.old) (given self.new) };
-
-    /// Takes one cluster more, by a slice of the text.
-    fn push_slice(&mut self, head: &[u32], is_long: bool) -> Result<(), AllocError>
+    fn push(&mut self, head: &[u32], is_long: bool) -> Result<(), AllocError>
         requires text { IsText head.now }
         requires some { 0 < length head.now }
         requires short { length head.now ≤ 1024 }

@@ -220,7 +220,7 @@ fn check_two_pieces(rt: &impl Abort, alloc: Global, text: &[u32], cut: usize) ->
 fn clusters_go_back_to_fewer(rt: HostRuntime) -> Result<(), Fail> {
     let mut out = Clusters::new(rt.alloc());
     out.push_run(&[0x61, 0x62])?;
-    out.push(&['\u{71}', '\u{301}'], true)?;
+    out.push(&[0x71, 0x301], true)?;
     assert_eq!(rt; ClusterSink::len(&out), 3);
     assert_eq!(rt; ClusterSink::first_long(&out), Some(2));
     out.cut_back(1, None);

@@ -58,17 +58,7 @@ impl Texts {
         part(&self.codes, &self.spans, k)
     }
 
-    pub(crate) fn push(&mut self, text: &[char]) -> Result<(), AllocError>
-        ensures pushed { OnOk result (self.new ≡ self.old ++ text.now ∷ []) }
-        ensures grew { (more : List (List ℕ)) × (self.new ≡ self.old ++ more) }
-    {
-        let span = span_from(self.codes.len(), text.len())?;
-        extend(&mut self.codes, text)?;
-        self.spans.push(span)?;
-        Ok(())
-    }
-
-    pub(crate) fn push_slice(&mut self, text: &[u32]) -> Result<(), AllocError>
+    pub(crate) fn push(&mut self, text: &[u32]) -> Result<(), AllocError>
         ensures pushed { OnOk result (self.new ≡ self.old ++ text.now ∷ []) }
         ensures grew { (more : List (List ℕ)) × (self.new ≡ self.old ++ more) }
     {
@@ -105,16 +95,4 @@ fn part<'a>(codes: &'a [u32], spans: &[Span], k: usize) -> &'a [u32]
     let start = spans[k].start as usize;
     let end = spans[k].end as usize;
     &codes[start..end]
-}
-
-/// Adds a text at the end, or its front where memory is wanting.
-fn extend(codes: &mut Vec<u32>, text: &[char]) -> Result<(), AllocError>
-    ensures all { OnOk result (codes.new.items ≡ codes.old.items ++ text.now) }
-    ensures some { (more : List ℕ) × (codes.new.items ≡ codes.old.items ++ more) }
-{
-    codes.reserve(text.len())?;
-    for c in text {
-        codes.push(*c as u32)?;
-    }
-    Ok(())
 }

@@ -9,7 +9,6 @@ ghost use Rattle.nfg_segment.specs.PlainLines.{ArePlainLines};
 
 use super::Held;
 use crate::ClusterSink;
-use crate::draft::to_char;
 use crate::open_cluster::give_slice;
 use nfg_passes::id_of;
 use nfg_text::is_plain;
@@ -33,7 +32,7 @@ impl Held {
         if tail.len() != 1 {
             return tail.is_empty();
         }
-        is_plain(tail[0] as u32)
+        is_plain(tail[0])
     }
 
     /// Gives out the tail of one code point at most as a cluster.
@@ -48,7 +47,7 @@ impl Held {
     {
         let tail = self.tail.as_slice();
         if tail.len() == 1 {
-            out.push_run(&[tail[0] as u32])?;
+            out.push_run(tail)?;
             self.tail.clear();
         }
         Ok(())
@@ -77,7 +76,7 @@ impl Held {
             return Ok(());
         }
         out.push_run(&lines[..last])?;
-        self.tail.push(to_char(lines[last]))?;
+        self.tail.push(lines[last])?;
         Ok(())
     }
 

@@ -1,5 +1,14 @@
-use Rattle.nfg_segment.proofs.TextLemmas.{scalar-at}
+use Rattle.std.proofs.Common.{sym, ap, subst, length, arith}
+use Rattle.std.proofs.lemmas.List.{length-append}
+use Rattle.nfg_text.specs.Text.{IsText}
+use Rattle.nfg_segment.proofs.TextLemmas.{IsText-append}
 use Rattle.nfg_segment.proofs.draft.Draft.extend.Goals as goal
 
-pub to_char-requires : goal.to_char-requires
-to_char-requires c = scalar-at c.args.text.now c.loop-c.c-index 0 c.requires c.loop-c-test.true
+pub invariant_of-self-2 : goal.invariant_of-self-2
+invariant_of-self-2 c =
+    let codes = c.self.inside.codes.items in
+    let more = c.args.text.now in (
+      λ here. omega (arith, c.self.invariant.0 here, ap length c.in_ok-extend_from_slice.ensures.items, length-append codes more),
+      subst IsText (sym c.in_ok-extend_from_slice.ensures.items) (IsText-append codes more c.self.invariant.1 c.requires),
+      c.self.invariant.2,
+    )

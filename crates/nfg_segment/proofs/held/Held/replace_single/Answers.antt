@@ -14,6 +14,6 @@ returns-in_ok-push-in-Some-clause-follows g c fed given f done =
     let parted = sym c.are_parted.ensures ∙ c.if-not-are_parted.false in
     let tail = c.in_ok-push-in-Some.ensures.current ∙ ap (λ l. l ++ c.args.next ∷ []) c.clear.ensures.current in (
       (first ∷ []) ∷ [],
-      follows-parted c.args.self.now.now c.self.inside.cluster.now c.push.new.self.current fed given first c.args.next f none one.0 one.1 c.requires c.if-next-eq10.false parted tail (ap (λ h. h.now.cluster) c.self.view_is),
+      follows-parted c.args.self.now.now c.self.inside.cluster.now c.push.new.self.current fed given first c.args.next f none one.tail one.safe c.requires.safe c.if-next-eq10.false parted tail (ap (λ h. h.now.cluster) c.self.view_is),
       c.in_ok-push_run-in-Some.ensures.pushed,
     )

@@ -9,7 +9,7 @@ use Rattle.nfg_segment.proofs.held.Held.settle.Goals as goal
 pub returns-in-Some-clause-settled : goal.returns-in-Some-clause-settled
 returns-in-Some-clause-settled g c cluster keeps =
     let one = c.in-Some.ensures in
-    let form = ap nfc one.0 ∙ safe_starts_stay c.in-Some.c one.1 in
+    let form = ap nfc one.tail ∙ safe_starts_stay c.in-Some.c one.safe in
     let pushed = c.in_ok-push.ensures.given cluster (subst (λ h. Keeps h.now.cluster cluster) (sym c.self.view_is) keeps) in (
       subst (Keeps c.push.new.self.now) (ap (next_all cluster) (sym form)) pushed.0,
       c.clear.ensures.current,
@@ -20,7 +20,7 @@ pub returns-then-is_empty-clause-settled : goal.returns-then-is_empty-clause-set
 returns-then-is_empty-clause-settled g c cluster keeps =
     let tail = c.args.self.now.now.tail in
     let none : tail ≡ [] =
-    sym (ap (λ h. h.now.tail) c.self.view_is) ∙ sym c.as_slice.ensures ∙ no_item _ (eqb-true _ 0 (sym c.is_empty.ensures ∙ c.if-is_empty.true)) in
+    sym (ap (λ h. h.now.tail) c.self.view_is) ∙ sym c.as_slice.ensures.codes ∙ no_item _ (eqb-true _ 0 (sym c.is_empty.ensures ∙ c.if-is_empty.true)) in
     let form = sym (ap nfc none ∙ nfc-nil) in (
       subst (Keeps c.args.self.now.now.cluster) (ap (next_all cluster) form) keeps,
       none,

@@ -1,5 +1,4 @@
-use Rattle.std.proofs.Common.{◌≡◌, ◌++◌, ◌∙◌, [], false, take, refl, ap, sym, subst, append-nil}
-use Rattle.nfg_text.specs.Graphemes.{starts_safely}
+use Rattle.std.proofs.Common.{◌++◌, ◌∙◌, [], take, refl, sym, subst, append-nil}
 use Rattle.nfg_segment.specs.Follows.{Follows}
 use Rattle.nfg_segment.proofs.SafeRuns.{take-one}
 use Rattle.nfg_segment.proofs.TextLemmas.{IsText-take, scalar-at}
@@ -8,8 +7,8 @@ use Rattle.nfg_segment.proofs.held.Held.take_mixed.Goals as goal
 pub starts_safely-requires : goal.starts_safely-requires
 starts_safely-requires g c = scalar-at c.args.text.now 0 0 c.requires.text c.requires.some
 
-pub to_char-requires : goal.to_char-requires
-to_char-requires g c = scalar-at c.args.text.now 0 0 c.requires.text c.requires.some
+pub compose_last-requires : goal.compose_last-requires
+compose_last-requires g c = scalar-at c.args.text.now 0 0 c.requires.text c.requires.some
 
 pub hold-requires : goal.hold-requires
 hold-requires g c = IsText-take c.unsafe_len-n.result c.args.text.now c.requires.text
@@ -17,11 +16,10 @@ hold-requires g c = IsText-take c.unsafe_len-n.result c.args.text.now c.requires
 pub returns-then-branch-clause-follows : goal.returns-then-branch-clause-follows
 returns-then-branch-clause-follows g c fed given f =
     let text = c.args.text.now in
-    let unsafe : starts_safely c.to_char.result ≡ false =
-    ap starts_safely c.to_char.ensures ∙ sym c.starts_safely.ensures ∙ c.if-starts_safely.false in
+    let unsafe = sym c.starts_safely.ensures ∙ c.if-starts_safely.false in
     let after = c.in_ok-compose_last.ensures.follows fed given unsafe f c.if-branch.true in (
       [],
-      subst (λ l. Follows c.compose_last.new.self.now (fed ++ l) (given ++ [])) (take-one text c.to_char.result c.requires.some c.to_char.ensures)
+      subst (λ l. Follows c.compose_last.new.self.now (fed ++ l) (given ++ [])) (take-one text _ c.requires.some refl)
           (subst (Follows c.compose_last.new.self.now _) (sym (append-nil given)) after),
       refl,
     )

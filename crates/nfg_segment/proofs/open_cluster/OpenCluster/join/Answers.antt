@@ -7,11 +7,11 @@ returns-then-len-ge-LONGEST-clause-joined c cluster keeps =
     let s = c.self.inside in
     let k = Keeps-same _ _ cluster (ap (λ v. v.now) c.self.view_is) keeps in
     joins-long s.head.current s.is_long s.memory c.then-self-inside.result cluster c.args.c k (omega (arith, c.len.ensures, c.if-len-ge-LONGEST.true))
-    (c.then-self-inside.ensures (reverse cluster) c.args.c k.memory c.requires)
+    (c.then-self-inside.ensures (reverse cluster) c.args.c k.memory c.requires.kind)
 
 pub returns-clause-joined : goal.returns-clause-joined
 returns-clause-joined c cluster keeps =
     let s = c.self.inside in
     let k = Keeps-same _ _ cluster (ap (λ v. v.now) c.self.view_is) keeps in
     joins-short s.head.current c.push.new.self.current s.is_long s.memory c.then-self-inside-2.result cluster c.args.c k (omega (arith, c.len.ensures, c.if-len-ge-LONGEST.false)) c.in_ok-push.ensures.current
-    (c.then-self-inside-2.ensures (reverse cluster) c.args.c k.memory c.requires)
+    (c.then-self-inside-2.ensures (reverse cluster) c.args.c k.memory c.requires.kind)
