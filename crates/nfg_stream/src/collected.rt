@@ -73,14 +73,8 @@ impl ClusterSink for Collected {
         Collected::first_long(self)
     }
 
-    fn push(&mut self, head: &[char], is_long: bool) -> Result<(), AllocError> {
+    fn push(&mut self, head: &[u32], is_long: bool) -> Result<(), AllocError> {
         push_kept(&mut self.graphemes, &mut self.longer, head)?;
-        self.first_long = first_or(self.first_long, is_long, self.graphemes.len() - 1);
-        Ok(())
-    }
-
-    fn push_slice(&mut self, head: &[u32], is_long: bool) -> Result<(), AllocError> {
-        push_kept_slice(&mut self.graphemes, &mut self.longer, head)?;
         self.first_long = first_or(self.first_long, is_long, self.graphemes.len() - 1);
         Ok(())
     }
@@ -98,7 +92,8 @@ impl ClusterSink for Collected {
 
 /// The number as which a cluster is kept, which becomes one of the longer ones unless it has one code
 /// point.
-fn kept(longer: &mut Longer, head: &[char]) -> Result<i32, AllocError>
+fn kept(longer: &mut Longer, head: &[u32]) -> Result<i32, AllocError>
+    requires text { IsText head.now }
     requires some { 0 < length head.now }
     requires short { length head.now ≤ 1024 }
     ensures number { IfOk result (λ n. kept_as longer.new n ≡ head.now) }
@@ -113,7 +108,8 @@ fn kept(longer: &mut Longer, head: &[char]) -> Result<i32, AllocError>
 }
 
 /// Adds the number of a cluster at the end.
-fn push_kept(graphemes: &mut Numbers, longer: &mut Longer, head: &[char]) -> Result<(), AllocError>
+fn push_kept(graphemes: &mut Numbers, longer: &mut Longer, head: &[u32]) -> Result<(), AllocError>
+    requires text { IsText head.now }
     requires some { 0 < length head.now }
     requires short { length head.now ≤ 1024 }
     ensures pushed { OnOk result ((n : ℤ) × (graphemes.new ≡ graphemes.old ++ n ∷ [])
@@ -122,41 +118,6 @@ fn push_kept(graphemes: &mut Numbers, longer: &mut Longer, head: &[char]) -> Res
     ensures grew { (more : List (List ℕ)) × (longer.new ≡ longer.old ++ more) }
 {
     let number = kept(longer, head)?;
-    graphemes.push(number)?;
-    Ok(())
-}
-
-/// The number as which a slice of a text is kept.
-fn kept_slice(longer: &mut Longer, head: &[u32]) -> Result<i32, AllocError>
-    requires text { IsText head.now }
-    requires some { 0 < length head.now }
-    requires short { length head.now ≤ 1024 }
-    ensures number { IfOk result (λ n. kept_as longer.new n ≡ head.now) }
-    ensures counted { IfOk result (λ n. IsCounted (length longer.new) n) }
-    ensures grew { (more : List (List ℕ)) × (longer.new ≡ longer.old ++ more) }
-{
-    if head.len() == 1 {
-        return Ok(head[0] as i32);
-    }
-    let place = longer.place_of_slice(head)?;
-    Ok(-1 - place as i32)
-}
-
-/// Adds the number of a slice of a text at the end.
-fn push_kept_slice(
-    graphemes: &mut Numbers,
-    longer: &mut Longer,
-    head: &[u32],
-) -> Result<(), AllocError>
-    requires text { IsText head.now }
-    requires some { 0 < length head.now }
-    requires short { length head.now ≤ 1024 }
-    ensures pushed { OnOk result ((n : ℤ) × (graphemes.new ≡ graphemes.old ++ n ∷ [])
-        × (kept_as longer.new n ≡ head.now) × IsCounted (length longer.new) n) }
-    ensures none { OnErr result (graphemes.new ≡ graphemes.old) }
-    ensures grew { (more : List (List ℕ)) × (longer.new ≡ longer.old ++ more) }
-{
-    let number = kept_slice(longer, head)?;
     graphemes.push(number)?;
     Ok(())
 }

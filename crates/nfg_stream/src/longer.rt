@@ -29,8 +29,6 @@ pub(crate) struct Longer {
     texts: Clusters,
     // the index of a text with this hash, or of none
     slots: Vec<u32>,
-    // the text that is searched; kept for its room alone
-    wanted: Vec<u32>,
 }
 
 impl Model for Longer {
@@ -49,7 +47,6 @@ impl Longer {
         Longer {
             texts: Clusters::new(alloc),
             slots: Vec::new(alloc),
-            wanted: Vec::new(alloc),
         }
     }
 
@@ -69,7 +66,8 @@ impl Longer {
     }
 
     /// A place of the text, which is added where it isn't found.
-    pub(crate) fn place_of(&mut self, text: &[char]) -> Result<usize, AllocError>
+    pub(crate) fn place_of(&mut self, text: &[u32]) -> Result<usize, AllocError>
+        requires text { IsText text.now }
         requires some { 0 < length text.now }
         requires short { length text.now ≤ 1024 }
         ensures within { IfOk result (λ place. place < length self.new) }
@@ -77,9 +75,8 @@ impl Longer {
         ensures place { IfOk result (λ place. slice_index_or self.new place [] ≡ text.now) }
         ensures grew { (more : List (List ℕ)) × (self.new ≡ self.old ++ more) }
     {
-        copy(text, &mut self.wanted)?;
         make_room(&self.texts, &mut self.slots)?;
-        match find(&self.texts, &self.slots, &self.wanted) {
+        match find(&self.texts, &self.slots, text) {
             Ok(place) => Ok(place),
             Err(slot) => {
                 let place = add(&mut self.texts, text)?;
@@ -88,68 +85,11 @@ impl Longer {
             }
         }
     }
-
-    /// The same of a slice of a text.
-    pub(crate) fn place_of_slice(&mut self, slice: &[u32]) -> Result<usize, AllocError>
-        requires text { IsText slice.now }
-        requires some { 0 < length slice.now }
-        requires short { length slice.now ≤ 1024 }
-        ensures within { IfOk result (λ place. place < length self.new) }
-        ensures few { IfOk result (λ place. place < 0x4000_0000) }
-        ensures place { IfOk result (λ place. slice_index_or self.new place [] ≡ slice.now) }
-        ensures grew { (more : List (List ℕ)) × (self.new ≡ self.old ++ more) }
-    {
-        make_room(&self.texts, &mut self.slots)?;
-        match find(&self.texts, &self.slots, slice) {
-            Ok(place) => Ok(place),
-            Err(slot) => {
-                let place = add_slice(&mut self.texts, slice)?;
-                self.slots[slot] = place as u32;
-                Ok(place)
-            }
-        }
-    }
-}
-
-/// Adds a slice of a text, and gives its place.
-fn add_slice(texts: &mut Clusters, slice: &[u32]) -> Result<usize, AllocError>
-    requires text { IsText slice.now }
-    requires some { 0 < length slice.now }
-    requires short { length slice.now ≤ 1024 }
-    ensures within { IfOk result (λ place. place < length texts.new.heads) }
-    ensures few { IfOk result (λ place. place < 0x4000_0000) }
-    ensures place { IfOk result (λ place. slice_index_or texts.new.heads place [] ≡ slice.now) }
-    ensures grew { (more : List (List ℕ)) × (texts.new.heads ≡ texts.old.heads ++ more) }
-{
-    let place = texts.len();
-    if place >= TEXT_LIMIT {
-        return Err(AllocError);
-    }
-    texts.push_slice(slice, false)?;
-    Ok(place)
-}
-
-/// Copies a text.
-fn copy(text: &[char], into: &mut Vec<u32>) -> Result<(), AllocError>
-    ensures { OnOk result (into.new.items ≡ text.now) }
-{
-    into.truncate(0);
-    extend(into, text)
-}
-
-/// Adds a text at the end, or its front where memory is wanting.
-fn extend(codes: &mut Vec<u32>, text: &[char]) -> Result<(), AllocError>
-    ensures { OnOk result (codes.new.items ≡ codes.old.items ++ text.now) }
-{
-    codes.reserve(text.len())?;
-    for c in text {
-        codes.push(*c as u32)?;
-    }
-    Ok(())
 }
 
 /// Adds a text, and gives its place.
-fn add(texts: &mut Clusters, text: &[char]) -> Result<usize, AllocError>
+fn add(texts: &mut Clusters, text: &[u32]) -> Result<usize, AllocError>
+    requires text { IsText text.now }
     requires some { 0 < length text.now }
     requires short { length text.now ≤ 1024 }
     ensures within { IfOk result (λ place. place < length texts.new.heads) }
