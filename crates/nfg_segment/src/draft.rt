@@ -68,7 +68,7 @@ impl Draft {
         Ok(())
     }
 
-    /// Adds another at the end.
+    /// Adds a text at the end.
     pub(crate) fn extend(&mut self, text: &[u32]) -> Result<(), AllocError>
         requires { IsText text.now }
         ensures current { OnOk result (self.new.current ≡ self.old.current ++ text.now) }

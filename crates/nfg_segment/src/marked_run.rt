@@ -10,7 +10,7 @@ ghost use Rattle.nfg_segment.specs.Given.{Grew, with_cluster, with_clusters};
 ghost use Rattle.nfg_segment.specs.Held.{Keeps, next_all, closed_all};
 
 use crate::ClusterSink;
-use crate::open_cluster::{OpenCluster, give_slice};
+use crate::open_cluster::{OpenCluster, give_cluster};
 use crate::open_reach::{kind_of, pass_open};
 use crate::settled_run::WINDOW;
 use nfg_passes::{START, mark_breaks};
@@ -127,7 +127,7 @@ fn go_past<S: ClusterSink>(
         });
     }
     out.push_run(&text[begun.row..begun.start])?;
-    give_slice(&text[begun.start..at], out)?;
+    give_cluster(&text[begun.start..at], out)?;
     Ok(Begun { row: at, start: at })
 }
 

@@ -202,7 +202,7 @@ impl OpenCluster {
         ensures grew { Grew (S.given out.old) (S.given out.new) }
     {
         if !self.is_some() {
-            give_slice(text, out)?;
+            give_cluster(text, out)?;
             return Ok(());
         }
         self.join_all(text, memory)?;
@@ -242,7 +242,7 @@ impl OpenCluster {
 }
 
 /// Gives out a cluster.
-pub(crate) fn give_slice<S: ClusterSink>(cluster: &[u32], out: &mut S) -> Result<(), AllocError>
+pub(crate) fn give_cluster<S: ClusterSink>(cluster: &[u32], out: &mut S) -> Result<(), AllocError>
     requires text { IsText cluster.now }
     requires some { 0 < length cluster.now }
     ensures given { OnOk result (S.given out.new ≡ with_cluster (S.given out.old) cluster.now) }

@@ -9,7 +9,7 @@ ghost use Rattle.nfg_segment.specs.PlainLines.{ArePlainLines};
 
 use super::Held;
 use crate::ClusterSink;
-use crate::open_cluster::give_slice;
+use crate::open_cluster::give_cluster;
 use nfg_passes::id_of;
 use nfg_text::is_plain;
 use std::alloc::AllocError;
@@ -100,7 +100,7 @@ impl Held {
     {
         self.give_tail(out)?;
         out.push_run(lines)?;
-        give_slice(line_end, out)?;
+        give_cluster(line_end, out)?;
         Ok(())
     }
 }

@@ -9,8 +9,8 @@ use Rattle.nfg_segment.proofs.marked_run.go_past.Goals as goal
 pub push_run-requires : goal.push_run-requires
 push_run-requires g c = slice_text c.args.text.now c.args.begun.row c.args.begun.start c.requires.text
 
-pub give_slice-requires-clause-text : goal.give_slice-requires-clause-text
-give_slice-requires-clause-text g c = slice_text c.args.text.now c.args.begun.start c.args.at c.requires.text
+pub give_cluster-requires-clause-text : goal.give_cluster-requires-clause-text
+give_cluster-requires-clause-text g c = slice_text c.args.text.now c.args.begun.start c.args.at c.requires.text
 
 pub returns-then-at-begun-eq1-clause-given : goal.returns-then-at-begun-eq1-clause-given
 returns-then-at-begun-eq1-clause-given g c _ =
@@ -23,5 +23,5 @@ returns-clause-given g c _ =
     let text = c.args.text.now in
     let row = singles (slice_range text c.args.begun.row c.args.begun.start) in
     let last = slice_range text c.args.begun.start c.args.at in
-    row-none text (given c.give_slice.new.out) (with_clusters (given c.args.out.now) row) c.args.at last
-    (c.in_ok-give_slice.ensures.given ∙ ap (λ o. with_cluster o last) c.in_ok-push_run.ensures.pushed)
+    row-none text (given c.give_cluster.new.out) (with_clusters (given c.args.out.now) row) c.args.at last
+    (c.in_ok-give_cluster.ensures.given ∙ ap (λ o. with_cluster o last) c.in_ok-push_run.ensures.pushed)

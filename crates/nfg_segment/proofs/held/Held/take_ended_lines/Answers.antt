@@ -18,5 +18,5 @@ returns-clause-follows g c fed given apart =
       subst (λ end. Follows new (fed ++ (lines ++ end)) (given ++ more)) (sym return.2)
           (follows-ended return.0 return.1 h new.cluster new.tail lines fed given apart before.cluster c.requires.plain before.tail),
       given-ended _ _ _ _ h.tail lines line_end before.given c.in_ok-push_run.ensures.pushed
-          (c.in_ok-give_slice.ensures.given ∙ ap (with_cluster _) return.2),
+          (c.in_ok-give_cluster.ensures.given ∙ ap (with_cluster _) return.2),
     )

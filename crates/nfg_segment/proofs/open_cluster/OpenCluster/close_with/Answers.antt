@@ -8,7 +8,7 @@ use Rattle.nfg_segment.proofs.open_cluster.OpenCluster.close_with.Goals as goal
 pub returns-then-not-is_some-clause-given : goal.returns-then-not-is_some-clause-given
 returns-then-not-is_some-clause-given g c cluster keeps remembers =
     let none = none-is_nil cluster (sym (c.is_some.ensures.cluster cluster keeps) ∙ c.if-not-is_some.true) in
-    (subst (Keeps c.args.self.now.now) none keeps, c.in_ok-give_slice.ensures.given ∙ ap (λ l. with_cluster (g.S.ClusterSink.given c.args.out.now) (l ++ c.args.text.now)) (sym none))
+    (subst (Keeps c.args.self.now.now) none keeps, c.in_ok-give_cluster.ensures.given ∙ ap (λ l. with_cluster (g.S.ClusterSink.given c.args.out.now) (l ++ c.args.text.now)) (sym none))
 
 pub returns-clause-given : goal.returns-clause-given
 returns-clause-given g c cluster keeps remembers =

@@ -2,7 +2,7 @@ use Rattle.std.proofs.Common.{◌∙◌, arith}
 use Rattle.std.proofs.lemmas.List.{length-take-le}
 use Rattle.nfg_segment.proofs.Reaching.{give-single, give-short, give-long}
 use Rattle.nfg_segment.proofs.TextLemmas.{IsText-take}
-use Rattle.nfg_segment.proofs.open_cluster.give_slice.Goals as goal
+use Rattle.nfg_segment.proofs.open_cluster.give_cluster.Goals as goal
 
 pub slice_bounds-push-end : goal.slice_bounds-push-end
 slice_bounds-push-end g c = let e = length-take-le 1024 c.args.cluster.now (omega (arith, c.if-cluster-gt-LONGEST.true)) in omega (arith, e)
