@@ -14,6 +14,15 @@ fn append_codes(alloc: Global) -> Result<Outcome, AllocError> {
     }
 }
 
+/// A list whose room is full.
+fn push_code(alloc: Global) -> Result<Outcome, AllocError> {
+    let mut list = CodeList::from_slice(alloc, &[0x61; 4])?;
+    match list.push(0x62) {
+        Ok(()) => Ok(Outcome::Done),
+        Err(_) => Ok(refused(list.as_slice() == [0x61; 4].as_slice())),
+    }
+}
+
 fn reserve_codes(alloc: Global) -> Result<Outcome, AllocError> {
     let mut list = CodeList::from_slice(alloc, &[0x61, 0x301])?;
     match list.reserve(100) {
@@ -30,9 +39,25 @@ fn append_ends(alloc: Global) -> Result<Outcome, AllocError> {
     }
 }
 
+fn reserve_ends(alloc: Global) -> Result<Outcome, AllocError> {
+    let mut list = EndList::from_slice(alloc, &[2, 5])?;
+    match list.reserve(100) {
+        Ok(()) => Ok(Outcome::Done),
+        Err(_) => Ok(refused(list.as_slice() == [2, 5].as_slice())),
+    }
+}
+
 fn append_bytes(alloc: Global) -> Result<Outcome, AllocError> {
     let mut list = ByteList::from_slice(alloc, b"no")?;
     match list.append(&[0x62; 100]) {
+        Ok(()) => Ok(Outcome::Done),
+        Err(_) => Ok(refused(list.as_slice() == b"no".as_slice())),
+    }
+}
+
+fn reserve_bytes(alloc: Global) -> Result<Outcome, AllocError> {
+    let mut list = ByteList::from_slice(alloc, b"no")?;
+    match list.reserve(100) {
         Ok(()) => Ok(Outcome::Done),
         Err(_) => Ok(refused(list.as_slice() == b"no".as_slice())),
     }
@@ -54,8 +79,11 @@ fn encode(alloc: Global) -> Result<Outcome, AllocError> {
 
 pub(crate) fn report(rt: &impl Print, alloc: Global) -> io::Result<()> {
     print(rt, "CodeList::append", append_codes(alloc))?;
+    print(rt, "CodeList::push", push_code(alloc))?;
     print(rt, "CodeList::reserve", reserve_codes(alloc))?;
     print(rt, "EndList::append", append_ends(alloc))?;
+    print(rt, "EndList::reserve", reserve_ends(alloc))?;
     print(rt, "ByteList::append", append_bytes(alloc))?;
+    print(rt, "ByteList::reserve", reserve_bytes(alloc))?;
     print(rt, "encode_into", encode(alloc))
 }

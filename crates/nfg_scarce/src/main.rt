@@ -4,8 +4,13 @@
 
 use std::io;
 
+mod blocks;
+mod clusters;
+mod files;
+mod forms;
 mod lists;
 mod outcome;
+mod runs;
 mod scripts;
 mod streams;
 mod strings;
@@ -18,5 +23,10 @@ fn main(rt: HostRuntime) -> io::Result<()> {
     streams::report(&rt, rt.alloc())?;
     tables::report(&rt, rt.alloc())?;
     texts::report(&rt, rt.alloc())?;
-    scripts::report(&rt, rt.alloc())
+    scripts::report(&rt, rt.alloc())?;
+    blocks::report(&rt, rt.alloc())?;
+    forms::report(&rt, rt.alloc())?;
+    clusters::report(&rt, rt.alloc())?;
+    files::report(&rt, rt.alloc())?;
+    runs::report(&rt, rt.alloc())
 }

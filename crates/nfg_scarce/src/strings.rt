@@ -69,6 +69,17 @@ fn repeated(alloc: Global) -> Result<Outcome, AllocError> {
     }
 }
 
+fn clip(alloc: Global) -> Result<Outcome, AllocError> {
+    let string = two_pieces(alloc)?;
+    if string.len() < 3 {
+        return Ok(Outcome::Changed);
+    }
+    match string.clip(alloc, 1, 3) {
+        Ok(_) => Ok(Outcome::Done),
+        Err(_) => Ok(refused(is_two_pieces(&string))),
+    }
+}
+
 fn part(alloc: Global) -> Result<Outcome, AllocError> {
     let string = two_pieces(alloc)?;
     match substring(alloc, &string, 1, 2) {
@@ -82,5 +93,6 @@ pub(crate) fn report(rt: &impl Print, alloc: Global) -> io::Result<()> {
     print(rt, "NString::append", append(alloc))?;
     print(rt, "NString::flatten", flatten(alloc))?;
     print(rt, "NString::repeated", repeated(alloc))?;
+    print(rt, "NString::clip", clip(alloc))?;
     print(rt, "substring", part(alloc))
 }
