@@ -85,6 +85,8 @@ fn number_by_forks<T: Shared>(
 ) -> Result<bool, AllocError>
     requires table { T.is_of table.now pass.old }
     requires root { (T.seen pass.old).root ≡ true }
+    ensures table { T.is_of table.now pass.new }
+    ensures root { (T.seen pass.new).root ≡ true }
 {
     let mut one = table.fork(alloc, pass)?;
     let mut other = table.fork(alloc, pass)?;
@@ -97,23 +99,26 @@ fn number_by_forks<T: Shared>(
     Ok(known == number_of_one && known == number_of_other)
 }
 
-/// What came of two forks, each call of which may be refused.
-fn outcome_of_forks(same: Result<bool, AllocError>) -> Outcome {
-    match same {
+/// Where a call of two forks is refused, the next two number the text and are met.
+fn two_forks<T: Shared>(alloc: Global, table: &T, pass: &mut T::Pass) -> Outcome
+    requires table { T.is_of table.now pass.old }
+    requires root { (T.seen pass.old).root ≡ true }
+{
+    match number_by_forks(alloc, table, pass) {
         Ok(true) => Outcome::Done,
         Ok(false) => Outcome::Changed,
-        Err(_) => Outcome::Kept,
+        Err(_) => refused(number_by_forks(alloc, table, pass) == Ok(true)),
     }
 }
 
 fn forks_over_cells(alloc: Global) -> Result<Outcome, AllocError> {
     let (table, mut pass) = CellTable::new(alloc, 16)?;
-    Ok(outcome_of_forks(number_by_forks(alloc, &table, &mut pass)))
+    Ok(two_forks(alloc, &table, &mut pass))
 }
 
 fn forks_over_words(alloc: Global) -> Result<Outcome, AllocError> {
     let (table, mut pass) = WordTable::new(alloc, 16)?;
-    Ok(outcome_of_forks(number_by_forks(alloc, &table, &mut pass)))
+    Ok(two_forks(alloc, &table, &mut pass))
 }
 
 fn intern_alone(alloc: Global) -> Result<Outcome, AllocError> {
