@@ -20,11 +20,7 @@ mod drawn_outside;
 mod draws;
 mod evaluated;
 #[cfg(test)]
-mod example_string_tests;
-#[cfg(test)]
 mod example_tests;
-#[cfg(test)]
-mod failing_limit_tests;
 #[cfg(test)]
 mod failing_tests;
 mod generated_input;
